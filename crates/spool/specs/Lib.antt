@@ -1,0 +1,5 @@
+pub mod Entries
+pub mod Lists
+pub mod Refusals
+pub mod Rules
+pub mod Texts

@@ -1,0 +1,2 @@
+pub dummy : Unit {0}
+dummy = tt
