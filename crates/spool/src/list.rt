@@ -40,6 +40,22 @@ impl OrderedList {
         Ok(memory[at])
     }
 
+    // Adds records at the end.
+    pub fn extend<T: Copy>(&mut self, memory: &mut [T], items: &[T]) -> Result<(), Refusal>
+        ensures answer { λ r. ⌜ told r ≡ appends (length (now (memory .entry))) (recordsOf (now (self .entry)) (now (memory .entry))) (now (items .entry)) ⌝ }
+        ensures after { λ _. ⌜ recordsOf (now (self .exit)) (now (memory .exit)) ≡ appended (length (now (memory .entry))) (recordsOf (now (self .entry)) (now (memory .entry))) (now (items .entry)) ⌝ }
+        ensures refused { λ r. ⌜ (isOk r ≡ false → (now (self .exit) ≡ now (self .entry)) × (now (memory .exit) ≡ now (memory .entry))) ⌝ }
+    {
+        let count = self.count.min(memory.len());
+        if items.len() > memory.len() - count {
+            return Err(Refusal::NoSuchEntry);
+        }
+        let end = count + items.len();
+        memory[count..end].copy_from_slice(items);
+        self.count = end;
+        Ok(())
+    }
+
     // Adds a record at the end.
     pub fn append<T: Copy>(&mut self, memory: &mut [T], item: T) -> Result<(), Refusal>
         ensures answer { λ r. ⌜ told r ≡ appends (length (now (memory .entry))) (recordsOf (now (self .entry)) (now (memory .entry))) (item ∷ []) ⌝ }
@@ -55,10 +71,55 @@ impl OrderedList {
         Ok(())
     }
 
+    // Takes out `by` records from a place on. Each record behind them moves once.
+    pub fn remove_run<T: Copy>(&mut self, memory: &mut [T], at: usize, by: usize) -> Result<(), Refusal>
+        ensures answer { λ r. ⌜ told r ≡ removes (recordsOf (now (self .entry)) (now (memory .entry))) at by ⌝ }
+        ensures after { λ _. ⌜ recordsOf (now (self .exit)) (now (memory .exit)) ≡ remaining (recordsOf (now (self .entry)) (now (memory .entry))) at by ⌝ }
+        ensures refused { λ r. ⌜ (isOk r ≡ false → (now (self .exit) ≡ now (self .entry)) × (now (memory .exit) ≡ now (memory .entry))) ⌝ }
+    {
+        let count = self.count.min(memory.len());
+        if at > count {
+            return Err(Refusal::NoSuchEntry);
+        }
+        if by > count - at {
+            return Err(Refusal::NoSuchEntry);
+        }
+        close_gap(memory, at, by, count);
+        self.count = count - by;
+        Ok(())
+    }
+
+    // Takes out the record at a place.
+    pub fn remove<T: Copy>(&mut self, memory: &mut [T], at: usize) -> Result<(), Refusal>
+        ensures answer { λ r. ⌜ told r ≡ removes (recordsOf (now (self .entry)) (now (memory .entry))) at 1 ⌝ }
+        ensures after { λ _. ⌜ recordsOf (now (self .exit)) (now (memory .exit)) ≡ remaining (recordsOf (now (self .entry)) (now (memory .entry))) at 1 ⌝ }
+        ensures refused { λ r. ⌜ (isOk r ≡ false → (now (self .exit) ≡ now (self .entry)) × (now (memory .exit) ≡ now (memory .entry))) ⌝ }
+    {
+        self.remove_run(memory, at, 1)
+    }
+
     // Keeps the records before a place.
     pub fn truncate(&mut self, len: usize)
         ensures { λ _. ⌜ now (self .exit) .count ≡ min (now (self .entry) .count) len ⌝ }
     {
         self.count = self.count.min(len);
+    }
+
+    // Drops every record.
+    pub fn clear(&mut self)
+        ensures { λ _. ⌜ now (self .exit) .count ≡ 0 ⌝ }
+    {
+        self.count = 0;
+    }
+}
+
+// Moves what lies from `at + by` up to `end` down to `at`.
+fn close_gap<T: Copy>(memory: &mut [T], at: usize, by: usize, end: usize)
+    requires fits { ⌜ at + by ≤ end ⌝ }
+    requires within { ⌜ end ≤ length (now memory) ⌝ }
+    ensures { λ _. ⌜ take (end - by) (now (memory .exit)) ≡ take at (now (memory .entry)) ++ drop (at + by) (take end (now (memory .entry))) ⌝ }
+{
+    for i in at..end - by {
+        memory[i] = memory[i + by];
     }
 }

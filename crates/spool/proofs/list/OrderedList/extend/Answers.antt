@@ -1,0 +1,29 @@
+use borrow.Author.Needs.{needs}
+use native.Mathlib.Omega.{arith}
+use mathlib.Core.Path.{refl}
+use Rattle.std.proofs.shelf.Tests.{true≢false}
+use Rattle.std.proofs.shelf.Parts.{overwrites}
+use Rattle.spool.proofs.Fronts.{extend-fits, extend-after, extend-full, extend-same}
+use Rattle.spool.proofs.list.OrderedList.extend.Needs as need
+
+pub returns-then-items-memory : need.returns-then-items-memory
+returns-then-items-memory g c =
+    let xs = c .args .memory .now in
+    let ys = c .args .items .now in
+    let n = c .min-count .result in
+    record {
+      answer = extend-full xs ys (c .args .self .now .count) n (c .min-count .ensures) (omega arith);
+      after = extend-same xs ys (c .args .self .now .count) n (c .min-count .ensures) (omega arith);
+      refused = λ _. (refl, refl);
+    }
+
+pub returns : need.returns
+returns g c =
+    let xs = c .args .memory .now in
+    let ys = c .args .items .now in
+    let n = c .min-count .result in
+    record {
+      answer = extend-fits xs ys (c .args .self .now .count) n (c .min-count .ensures) (omega arith);
+      after = extend-after xs ys (c .args .self .now .count) n (c .min-count .ensures) _ (omega arith) (search (needs, overwrites));
+      refused = λ h. absurd (true≢false h);
+    }
