@@ -4,7 +4,7 @@ ghost use Rattle.spool.specs.Refusals.{told};
 ghost use Rattle.std.specs.Finite.{nth};
 ghost use Rattle.std.specs.Results.{isOk};
 ghost use lib.ListN.{drop, getD, length, take};
-ghost use mathlib.Core.Bool.{false};
+ghost use mathlib.Core.Bool.{false, true};
 ghost use mathlib.Core.List.{[], _∷_, _++_};
 ghost use mathlib.Core.Path.{_≡_};
 use crate::refusal::Refusal;
@@ -44,6 +44,7 @@ impl OrderedList {
     pub fn extend<T: Copy>(&mut self, memory: &mut [T], items: &[T]) -> Result<(), Refusal>
         ensures answer { λ r. ⌜ told r ≡ appends (length (now (memory .entry))) (recordsOf (now (self .entry)) (now (memory .entry))) (now (items .entry)) ⌝ }
         ensures after { λ _. ⌜ recordsOf (now (self .exit)) (now (memory .exit)) ≡ appended (length (now (memory .entry))) (recordsOf (now (self .entry)) (now (memory .entry))) (now (items .entry)) ⌝ }
+        ensures count { λ r. ⌜ (isOk r ≡ true → now (self .exit) .count ≡ length (recordsOf (now (self .exit)) (now (memory .exit)))) ⌝ }
         ensures refused { λ r. ⌜ (isOk r ≡ false → (now (self .exit) ≡ now (self .entry)) × (now (memory .exit) ≡ now (memory .entry))) ⌝ }
     {
         let count = self.count.min(memory.len());
@@ -60,6 +61,7 @@ impl OrderedList {
     pub fn append<T: Copy>(&mut self, memory: &mut [T], item: T) -> Result<(), Refusal>
         ensures answer { λ r. ⌜ told r ≡ appends (length (now (memory .entry))) (recordsOf (now (self .entry)) (now (memory .entry))) (item ∷ []) ⌝ }
         ensures after { λ _. ⌜ recordsOf (now (self .exit)) (now (memory .exit)) ≡ appended (length (now (memory .entry))) (recordsOf (now (self .entry)) (now (memory .entry))) (item ∷ []) ⌝ }
+        ensures count { λ r. ⌜ (isOk r ≡ true → now (self .exit) .count ≡ length (recordsOf (now (self .exit)) (now (memory .exit)))) ⌝ }
         ensures refused { λ r. ⌜ (isOk r ≡ false → (now (self .exit) ≡ now (self .entry)) × (now (memory .exit) ≡ now (memory .entry))) ⌝ }
     {
         let count = self.count.min(memory.len());
@@ -75,6 +77,7 @@ impl OrderedList {
     pub fn remove_run<T: Copy>(&mut self, memory: &mut [T], at: usize, by: usize) -> Result<(), Refusal>
         ensures answer { λ r. ⌜ told r ≡ removes (recordsOf (now (self .entry)) (now (memory .entry))) at by ⌝ }
         ensures after { λ _. ⌜ recordsOf (now (self .exit)) (now (memory .exit)) ≡ remaining (recordsOf (now (self .entry)) (now (memory .entry))) at by ⌝ }
+        ensures count { λ r. ⌜ (isOk r ≡ true → now (self .exit) .count ≡ length (recordsOf (now (self .exit)) (now (memory .exit)))) ⌝ }
         ensures refused { λ r. ⌜ (isOk r ≡ false → (now (self .exit) ≡ now (self .entry)) × (now (memory .exit) ≡ now (memory .entry))) ⌝ }
     {
         let count = self.count.min(memory.len());
@@ -93,6 +96,7 @@ impl OrderedList {
     pub fn remove<T: Copy>(&mut self, memory: &mut [T], at: usize) -> Result<(), Refusal>
         ensures answer { λ r. ⌜ told r ≡ removes (recordsOf (now (self .entry)) (now (memory .entry))) at 1 ⌝ }
         ensures after { λ _. ⌜ recordsOf (now (self .exit)) (now (memory .exit)) ≡ remaining (recordsOf (now (self .entry)) (now (memory .entry))) at 1 ⌝ }
+        ensures count { λ r. ⌜ (isOk r ≡ true → now (self .exit) .count ≡ length (recordsOf (now (self .exit)) (now (memory .exit)))) ⌝ }
         ensures refused { λ r. ⌜ (isOk r ≡ false → (now (self .exit) ≡ now (self .entry)) × (now (memory .exit) ≡ now (memory .entry))) ⌝ }
     {
         self.remove_run(memory, at, 1)

@@ -1,7 +1,8 @@
 use borrow.Author.Needs.{needs}
 use native.Mathlib.Omega.{arith}
-use mathlib.Core.Path.{refl}
-use Rattle.std.proofs.shelf.Tests.{true≢false}
+use mathlib.Core.Path.{refl, sym}
+use Rattle.std.proofs.shelf.Lists.{length-take-le, length-append, length-take, length-drop}
+use Rattle.std.proofs.shelf.Tests.{true≢false, false≢true}
 use Rattle.std.proofs.shelf.Parts.{overwrites}
 use Rattle.spool.proofs.Fronts.{extend-fits, extend-after, extend-full, extend-same}
 use Rattle.spool.proofs.list.OrderedList.extend.Needs as need
@@ -14,6 +15,7 @@ returns-then-items-memory g c =
     record {
       answer = extend-full xs ys (c .args .self .now .count) n (c .min-count .ensures) (omega arith);
       after = extend-same xs ys (c .args .self .now .count) n (c .min-count .ensures) (omega arith);
+      count = λ h. absurd (false≢true h);
       refused = λ _. (refl, refl);
     }
 
@@ -25,5 +27,6 @@ returns g c =
     record {
       answer = extend-fits xs ys (c .args .self .now .count) n (c .min-count .ensures) (omega arith);
       after = extend-after xs ys (c .args .self .now .count) n (c .min-count .ensures) _ (omega arith) (search (needs, overwrites));
+      count = λ _. sym (length-take-le _ _ (simp (length-append, length-take, length-drop) (omega (arith, c .copy-from-slice .ensures .len))));
       refused = λ h. absurd (true≢false h);
     }

@@ -1,6 +1,7 @@
 use native.Mathlib.Omega.{arith}
-use mathlib.Core.Path.{refl}
-use Rattle.std.proofs.shelf.Tests.{true≢false}
+use mathlib.Core.Path.{refl, sym}
+use Rattle.std.proofs.shelf.Lists.{length-take-le}
+use Rattle.std.proofs.shelf.Tests.{true≢false, false≢true}
 use Rattle.spool.proofs.Fronts.{remove-fits, remove-after, remove-absent, remove-same}
 use Rattle.spool.proofs.list.OrderedList.remove_run.Needs as need
 
@@ -11,6 +12,7 @@ returns-then-at-count g c =
     record {
       answer = remove-absent xs (c .args .self .now .count) n (c .args .at) (c .args .by) (c .min-count .ensures) (omega arith);
       after = remove-same xs (c .args .self .now .count) n (c .args .at) (c .args .by) (c .min-count .ensures) (omega arith);
+      count = λ h. absurd (false≢true h);
       refused = λ _. (refl, refl);
     }
 
@@ -21,6 +23,7 @@ returns-then-by-count g c =
     record {
       answer = remove-absent xs (c .args .self .now .count) n (c .args .at) (c .args .by) (c .min-count .ensures) (omega arith);
       after = remove-same xs (c .args .self .now .count) n (c .args .at) (c .args .by) (c .min-count .ensures) (omega arith);
+      count = λ h. absurd (false≢true h);
       refused = λ _. (refl, refl);
     }
 
@@ -31,5 +34,6 @@ returns g c =
     record {
       answer = remove-fits xs (c .args .self .now .count) n (c .args .at) (c .args .by) (c .min-count .ensures) (omega arith);
       after = remove-after xs (c .args .self .now .count) n (c .args .at) (c .args .by) (c .min-count .ensures) _ (omega arith) (c .close-gap .ensures);
+      count = λ _. sym (length-take-le _ _ (omega arith));
       refused = λ h. absurd (true≢false h);
     }
