@@ -3,4 +3,5 @@ pub mod entry;
 pub mod interface;
 pub mod list;
 pub mod refusal;
+pub mod text;
 pub mod ticket;

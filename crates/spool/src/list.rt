@@ -27,7 +27,7 @@ impl OrderedList {
     pub fn len<T: Copy>(&self, memory: &[T]) -> usize
         ensures { λ r. ⌜ r ≡ length (recordsOf (now (self .entry)) (now (memory .entry))) ⌝ }
     {
-        self.count.min(memory.len())
+        memory.len().min(self.count)
     }
 
     // The record at a place.
