@@ -17,11 +17,11 @@ use Rattle.std.specs.declared.result.Result.the-variants.{Ok, Err}
 use Rattle.std.proofs.shelf.Tests.{cases-lt, cond-true, cond-false, lt-ltb, le-ltb, le-leb, lt-leb}
 use Rattle.spool.specs.Entries.{Entry}
 use Rattle.spool.specs.Lists.{present}
-use Rattle.spool.specs.Refusals.{Notice, plain, noRoom, notice, told}
+use Rattle.refusals.specs.Refusals.{Notice, plain, noRoom, notice, told}
 use Rattle.spool.specs.Rules.{staged, stages, stagesInto, grown, extended, unlessFault, asksRoom, removes, remains, summary, tells, copiesOf, copies, copied, copiedOf}
 use Rattle.spool.specs.declared.entry.Summary.{Summary}
-use Rattle.spool.specs.declared.refusal.RoomFault.{RoomFault}
-use Rattle.spool.specs.declared.refusal.Refusal.{Refusal}
+use Rattle.refusals.specs.declared.refusal.RoomFault.{RoomFault}
+use Rattle.refusals.specs.declared.refusal.Refusal.{Refusal}
 use Rattle.spool.proofs.Fronts.{nth-absent}
 
 -- The entry at a place.

@@ -1,13 +1,13 @@
 ghost use Prim.Native.Nat.{ℕ, _+_, _-_, _<_, _≤_, min};
 ghost use Rattle.spool.specs.Lists.{appended, appends, present, records as recordsOf, remaining, removes};
-ghost use Rattle.spool.specs.Refusals.{told};
+ghost use Rattle.refusals.specs.Refusals.{told};
 ghost use Rattle.std.specs.Finite.{nth};
 ghost use Rattle.std.specs.Results.{isOk};
 ghost use lib.ListN.{drop, getD, length, take};
 ghost use mathlib.Core.Bool.{false, true};
 ghost use mathlib.Core.List.{[], _∷_, _++_};
 ghost use mathlib.Core.Path.{_≡_};
-use crate::refusal::Refusal;
+use refusals::refusal::Refusal;
 
 // An ordered list of records of any one kind, at the front of a memory that each call is handed: it holds how many there are.
 #[derive(Clone, Copy)]
@@ -74,7 +74,12 @@ impl OrderedList {
     }
 
     // Takes out `by` records from a place on. Each record behind them moves once.
-    pub fn remove_run<T: Copy>(&mut self, memory: &mut [T], at: usize, by: usize) -> Result<(), Refusal>
+    pub fn remove_run<T: Copy>(
+        &mut self,
+        memory: &mut [T],
+        at: usize,
+        by: usize,
+    ) -> Result<(), Refusal>
         ensures answer { λ r. ⌜ told r ≡ removes (recordsOf (now (self .entry)) (now (memory .entry))) at by ⌝ }
         ensures after { λ _. ⌜ recordsOf (now (self .exit)) (now (memory .exit)) ≡ remaining (recordsOf (now (self .entry)) (now (memory .entry))) at by ⌝ }
         ensures count { λ r. ⌜ (isOk r ≡ true → now (self .exit) .count ≡ length (recordsOf (now (self .exit)) (now (memory .exit)))) ⌝ }

@@ -1,5 +1,5 @@
 ghost use Prim.Native.Nat.{ℕ};
-ghost use Rattle.spool.specs.Refusals.{plain, told, notice};
+ghost use Rattle.refusals.specs.Refusals.{plain, told, notice};
 ghost use Rattle.spool.specs.Rules.{extended, opened, staged, stages};
 ghost use Rattle.std.specs.Options.{isSome};
 ghost use Rattle.std.specs.Results.{Cases, isOk};
@@ -9,7 +9,7 @@ ghost use mathlib.Core.Bool.{false, true};
 ghost use mathlib.Core.List.{_++_};
 ghost use mathlib.Core.Path.{_≡_};
 use crate::interface::Spool;
-use crate::refusal::Refusal;
+use refusals::refusal::Refusal;
 
 // The right to end the lot that was opened with it. It can only be had by opening a lot, and has to be spent: it is neither
 // `Copy` nor `Drop`, and its one field is private.
@@ -31,7 +31,12 @@ pub fn open<S: Spool>(spool: &mut S) -> Result<Ticket, Refusal>
 }
 
 // Adds an entry to the lot.
-pub fn stage<S: Spool>(spool: &mut S, _ticket: &Ticket, mailbox: usize, payload: &[u8]) -> Result<(), Refusal>
+pub fn stage<S: Spool>(
+    spool: &mut S,
+    _ticket: &Ticket,
+    mailbox: usize,
+    payload: &[u8],
+) -> Result<(), Refusal>
     ensures refused { λ r. ⌜ (isOk r ≡ false → now (spool .exit) ≡ now (spool .entry)) ⌝ }
     ensures answer { λ r. ⌜ told r ≡ stages mailbox (S·Spool .lot (now (spool .entry))) (S·Spool .room (now (spool .entry)) mailbox (length (now (payload .entry)))) ⌝ }
     ensures held { λ _. ⌜ S·Spool .held (now (spool .exit)) ≡ S·Spool .held (now (spool .entry)) ⌝ }

@@ -1,5 +1,5 @@
 use borrow.Author.Needs.{needs}
-use Rattle.spool.proofs.text.RefusalDisplay.fmt.Needs as need
+use Rattle.refusals.proofs.text.RefusalDisplay.fmt.Needs as need
 
 pub returns-in-NoSuchSession : need.returns-in-NoSuchSession
 returns-in-NoSuchSession g c = simp (c .in-NoSuchSession .is) (search needs)

@@ -3,8 +3,8 @@ use Prim.Native.Nat.{ℕ}
 use lib.Chars.{codes}
 use mathlib.Core.List.{List, _++_}
 use Rattle.std.specs.Written.{decimal}
-use Rattle.spool.specs.declared.refusal.Refusal.{Refusal}
-use Rattle.spool.specs.declared.refusal.Refusal.the-variants.{NoSuchSession, AlreadyOpen, NotOpen, BadArea, BadSheet, ShortOutput, NoSuchMailbox, NothingHeld, ShortBuffer, LotOpen, NoLot, NoRoom, NoSuchEntry, Unlawful, BadRow, BadRowMailbox}
+use Rattle.refusals.specs.declared.refusal.Refusal.{Refusal}
+use Rattle.refusals.specs.declared.refusal.Refusal.the-variants.{NoSuchSession, AlreadyOpen, NotOpen, BadArea, BadSheet, ShortOutput, NoSuchMailbox, NothingHeld, ShortBuffer, LotOpen, NoLot, NoRoom, NoSuchEntry, Unlawful, BadRow, BadRowMailbox}
 
 abbrev pub sentence : Refusal → List ℕ
 sentence NoSuchSession = codes "there is no such session: sessions are 0 to 7"

@@ -1,5 +1,5 @@
-ghost use Rattle.spool.specs.Refusals.{notice};
-ghost use Rattle.spool.specs.Texts.{sentence};
+ghost use Rattle.refusals.specs.Refusals.{notice};
+ghost use Rattle.refusals.specs.Texts.{sentence};
 ghost use Rattle.std.specs.declared.option.Option.the-variants.{Some};
 ghost use mathlib.Core.Path.{_≡_};
 use crate::refusal::Refusal;
@@ -39,7 +39,10 @@ pub impl fmt::Display for Refusal as RefusalDisplay {
             Refusal::NoSuchSession => write!(f, "there is no such session: sessions are 0 to 7"),
             Refusal::AlreadyOpen => write!(f, "the session is already open"),
             Refusal::NotOpen => write!(f, "the session is not open"),
-            Refusal::BadArea => write!(f, "the area must have 512 to 65536 octets, and the same number at each feed"),
+            Refusal::BadArea => write!(
+                f,
+                "the area must have 512 to 65536 octets, and the same number at each feed"
+            ),
             Refusal::BadSheet => write!(f, "the sheet must have 100 records"),
             Refusal::ShortOutput => write!(f, "the output must have at least 256 octets"),
             Refusal::NoSuchMailbox => write!(f, "there is no such mailbox: mailboxes are 0 to 63"),
