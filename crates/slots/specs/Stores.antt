@@ -1,0 +1,45 @@
+-- What a slot store means: the entries held, the lot, room, and which memories make one.
+use Prim.Native.Nat.{ℕ, _*_, _/_, _%_}
+use lib.Dec.{eqb, leb, ltb}
+use lib.ListN.{drop, length, take}
+use mathlib.Core.Bool.{Bool, cond, _&&_}
+use mathlib.Core.List.{List, map}
+use Rattle.std.specs.Of.Vec.{vec-items}
+use Rattle.std.specs.declared.option.Option.{Option}
+use Rattle.std.specs.declared.option.Option.the-variants.{Some, None}
+use Rattle.spool.specs.Entries.{Entry}
+use Rattle.spool.specs.declared.refusal.RoomFault.{RoomFault}
+use Rattle.slots.specs.Tables.{slotCount, usedRows}
+use Rattle.slots.specs.declared.row.SlotRow.{SlotRow}
+use Rattle.slots.specs.declared.store.SlotStore.{SlotStore}
+
+-- Memory is lawful for so many slots if they are 1 to 32, it is cut evenly, and each has 512 to 65,536 octets.
+abbrev pub lawful : ℕ → ℕ → Bool
+lawful count octets =
+    leb 1 count && (leb count 32 && (eqb (octets % count) 0 && (leb 512 (octets / count) && leb (octets / count) 65536)))
+
+-- The entry of a row: its payload lies at the front of its slot.
+abbrev pub view : List ℕ → ℕ → SlotRow → Entry
+view octets size r = record { mailbox = r .mailbox; payload = take (r .length) (drop (r .slot * size) octets) }
+
+-- Every entry, held and then staged, in filing order.
+abbrev pub entries : SlotStore → List Entry
+entries s = map (view (vec-items (s .octets)) (s .size)) (usedRows (s .table))
+
+abbrev pub heldOf : SlotStore → List Entry
+heldOf s = take (s .filed) (entries s)
+
+abbrev pub lotOf : SlotStore → Option (List Entry)
+lotOf s = cond (s .opened) (Some (drop (s .filed) (entries s))) None
+
+abbrev pub fault : ℕ → RoomFault
+fault cause = record { layer = 0; cause = cause }
+
+-- Room needs a payload within a slot, else cause 1, and then fewer entries than slots, else cause 2.
+abbrev pub roomOf : SlotStore → ℕ → ℕ → Option RoomFault
+roomOf s m n =
+    cond (leb n (s .size)) (cond (ltb (length (entries s)) (slotCount (s .table))) None (Some (fault 2))) (Some (fault 1))
+
+-- The floor is the slot size.
+abbrev pub floorOf : SlotStore → ℕ
+floorOf s = s .size
