@@ -11,7 +11,7 @@ use lib.ListN.{length, take, drop, getD}
 use Rattle.std.specs.Changed.{refilled}
 use Rattle.std.specs.Holes.{removed}
 use Rattle.std.proofs.shelf.Edits.{length-removed}
-use Rattle.std.proofs.shelf.Lists.{drop-more, getD-take, length-push, length-take, refilled-is, take-append-drop, take-more}
+use Rattle.std.proofs.shelf.Lists.{append-nil, drop-all, drop-more, getD-take, length-push, length-take, length-take-le, refilled-is, take-append-drop, take-more, take-take}
 use Rattle.std.proofs.shelf.Sums.{sumBy-append, sumBy-cons, sumBy-push}
 use Rattle.std.proofs.shelf.Tests.{cases-order, cond-true, cond-false, eq-eqb, ne-eqb, lt-ltb, le-ltb, le-leb}
 use Rattle.std.specs.shelf.Lists.{sumBy}
@@ -117,3 +117,9 @@ module _ (t : SlotTable) (us : List SlotRow) (fs : List ℕ) (n : ℕ) (m : Move
 -- A row that was read at a place of the memory, as the row of the entry there.
 pub row-at : (t : SlotTable) (at : ℕ) (r : SlotRow) → at < length (usedRows t) → r ≡ getD (t .rows .items) at r → r ≡ getD (usedRows t) at r
 row-at t at r l e = e ∙ sym (getD-take (t .used .count) (t .rows .items) at r (omega (arith, length-take (t .used .count) (t .rows .items))))
+
+-- Taking out the last record leaves those before it.
+pub removed-last : {X : Type 0} (xs : List X) (n at : ℕ) → n ≤ length xs → at + 1 ≡ n → removed (take n xs) at ≡ take at xs
+removed-last xs n at l e =
+    ap (λ v. take at (take n xs) ++ v) (drop-all (suc at) (take n xs) (omega (arith, length-take-le n xs l)))
+    ∙ append-nil (take at (take n xs)) ∙ take-take at n xs (omega arith)
