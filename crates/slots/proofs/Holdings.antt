@@ -17,10 +17,10 @@ use Rattle.std.proofs.shelf.Sums.{getD-le-sumBy, sumBy-push}
 use Rattle.std.proofs.shelf.Tests.{cases-bool, cases-lt, cond-true, cond-false, eq-eqb, le-leb, le-ltb, lt-leb, lt-ltb, ltb-false, ltb-true}
 use Rattle.spool.specs.Entries.{Entry}
 use Rattle.spool.specs.Lists.{present}
-use Rattle.spool.specs.Refusals.{Notice}
+use Rattle.spool.specs.Refusals.{Notice, plain}
 use Rattle.spool.specs.Rules.{staged}
 use Rattle.slots.specs.Slots.{once, overlong, takes}
-use Rattle.slots.specs.Stores.{entries, fault, floorOf, heldOf, lotOf, roomOf, view}
+use Rattle.slots.specs.Stores.{entries, fault, floorOf, heldOf, lotOf, roomAmong, roomOf, view}
 use Rattle.slots.specs.Tables.{slotCount, usedRows}
 use Rattle.slots.specs.declared.row.SlotRow.{SlotRow}
 use Rattle.slots.specs.declared.store.SlotStore.{SlotStore}
@@ -107,34 +107,49 @@ pub present-some : {X : Type 0} (o : Option X) (x : X) → Ok x ≡ present o �
 present-some None x e = let z : _≡_ {A = ℕ} 0 1 = cc in absurd (omega arith)
 present-some (Some y) x e = cc
 
-pub present-none : {X : Type 0} (o : Option X) (n : Notice) → Err n ≡ present o → o ≡ None
-present-none None n e = refl
+pub present-none : {X : Type 0} (o : Option X) (n : Notice) → Err n ≡ present o → (o ≡ None) × (n ≡ plain 13)
+present-none None n e = (refl, cc)
 present-none (Some y) n e = let z : _≡_ {A = ℕ} 0 1 = cc in absurd (omega arith)
 
--- Room: a payload within a slot, and a slot that no entry has.
-pub room-there : (s : SlotStore) (m n : ℕ) → n ≤ s .size → length (usedRows (s .table)) < slotCount (s .table) → roomOf s m n ≡ None
-room-there s m n a b =
-    cond-true (leb n (s .size)) _ _ (le-leb n (s .size) a)
-    ∙ cond-true (ltb (length (entries s)) (slotCount (s .table))) _ _ (lt-ltb (length (entries s)) (slotCount (s .table)) (omega (arith, entries-length s)))
+pub mapped-some : {X Y : Type 0} (f : X → Y) (o : Option X) (y : Y) → mapped f o ≡ Some y → (x : X) × (o ≡ Some x) × (f x ≡ y)
+mapped-some f None y e = let z : _≡_ {A = ℕ} 0 1 = cc in absurd (omega arith)
+mapped-some f (Some x) y e = (x, refl, cc)
 
-pub room-long : (s : SlotStore) (m n : ℕ) → s .size < n → roomOf s m n ≡ Some (fault 1)
-room-long s m n h = cond-false (leb n (s .size)) _ _ (lt-leb n (s .size) h)
+-- No payload that is held is longer than a slot.
+pub payload-short : (s : SlotStore) (at : ℕ) (e : Entry) → nth (heldOf s) at ≡ Some e → length (e .payload) ≤ s .size
+payload-short s at e h =
+    let i = nth-is (heldOf s) at e h in
+    let r = mapped-some (view (s .octets .items) (s .size)) (nth (usedRows (s .table)) at) e
+        (sym (entry-at s at) ∙ sym (held-at s at (omega (arith, i .0, held-length s))) ∙ h) in
+    let l = lies s at (r .0) (r .1) in
+    omega (arith, l .short, l .long, ap (λ v. length (v .payload)) (r .2))
 
-pub room-full : (s : SlotStore) (m n : ℕ) → n ≤ s .size → slotCount (s .table) ≤ length (usedRows (s .table)) → roomOf s m n ≡ Some (fault 2)
-room-full s m n a b =
-    cond-true (leb n (s .size)) _ _ (le-leb n (s .size) a)
-    ∙ cond-false (ltb (length (entries s)) (slotCount (s .table))) _ _ (le-ltb (length (entries s)) (slotCount (s .table)) (omega (arith, entries-length s)))
+-- Room: a payload within a slot, and fewer entries than slots.
+module _ (size slots used n : ℕ) where
+  pub room-there : n ≤ size → used < slots → roomAmong size slots used n ≡ None
+  room-there a b = cond-true (leb n size) _ _ (le-leb n size a) ∙ cond-true (ltb used slots) _ _ (lt-ltb used slots b)
+
+  pub room-full : n ≤ size → slots ≤ used → roomAmong size slots used n ≡ Some (fault 2)
+  room-full a b = cond-true (leb n size) _ _ (le-leb n size a) ∙ cond-false (ltb used slots) _ _ (le-ltb used slots b)
+
+  pub room-long : size < n → roomAmong size slots used n ≡ Some (fault 1)
+  room-long a = cond-false (leb n size) _ _ (lt-leb n size a)
+
+  pub room-fits : roomAmong size slots used n ≡ None → (n ≤ size) × (used < slots)
+  room-fits e =
+      elim (cases-lt size n) [
+        | inl h ↦ let z : _≡_ {A = ℕ} 0 1 = cc (e, room-long h) in absurd (omega arith)
+        | inr h ↦
+            elim (cases-lt used slots) [
+              | inl k ↦ (h, k)
+              | inr k ↦ let z : _≡_ {A = ℕ} 0 1 = cc (e, room-full h k) in absurd (omega arith)
+            ]
+      ]
 
 pub has-room : (s : SlotStore) (m n : ℕ) → roomOf s m n ≡ None → (n ≤ s .size) × (length (usedRows (s .table)) < slotCount (s .table))
 has-room s m n e =
-    elim (cases-lt (s .size) n) [
-      | inl h ↦ let z : _≡_ {A = ℕ} 0 1 = cc (e, room-long s m n h) in absurd (omega arith)
-      | inr h ↦
-          elim (cases-lt (length (usedRows (s .table))) (slotCount (s .table))) [
-            | inl k ↦ (h, k)
-            | inr k ↦ let z : _≡_ {A = ℕ} 0 1 = cc (e, room-full s m n h k) in absurd (omega arith)
-          ]
-    ]
+    let f = room-fits (s .size) (slotCount (s .table)) (length (entries s)) n e in (f .0, omega (arith, f .1, entries-length s))
 
 pub empty-room : (s : SlotStore) → heldOf s ≡ [] → staged (lotOf s) ≡ [] → (m n : ℕ) → n ≤ floorOf s → roomOf s m n ≡ None
-empty-room s h k m n l = room-there s m n l (omega (arith, ap length h, held-length s, ap length k, staged-length s, s .some))
+empty-room s h k m n l =
+    room-there (s .size) (slotCount (s .table)) (length (entries s)) n l (omega (arith, entries-length s, ap length h, held-length s, ap length k, staged-length s, s .some))

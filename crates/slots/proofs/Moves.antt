@@ -11,8 +11,8 @@ use lib.ListN.{length, take, drop, getD}
 use Rattle.std.specs.Changed.{refilled}
 use Rattle.std.specs.Holes.{removed}
 use Rattle.std.proofs.shelf.Edits.{length-removed}
-use Rattle.std.proofs.shelf.Lists.{append-nil, drop-all, drop-more, getD-take, length-push, length-take, length-take-le, refilled-is, take-append-drop, take-more, take-take}
-use Rattle.std.proofs.shelf.Sums.{sumBy-append, sumBy-cons, sumBy-push}
+use Rattle.std.proofs.shelf.Lists.{append-nil, drop-all, drop-drop, drop-more, getD-take, length-push, length-take, length-take-le, refilled-is, take-append-drop, take-more, take-take}
+use Rattle.std.proofs.shelf.Sums.{sumBy-append, sumBy-cons, sumBy-push, sumBy-take-drop}
 use Rattle.std.proofs.shelf.Tests.{cases-order, cond-true, cond-false, eq-eqb, ne-eqb, lt-ltb, le-ltb, le-leb}
 use Rattle.std.specs.shelf.Lists.{sumBy}
 use Rattle.spool.specs.Lists.{records, appended, remaining}
@@ -38,6 +38,14 @@ sumBy-removed f xs at x l e =
     let d = sumBy-cons f x (drop (suc at) xs) in
     let g = sumBy-append f (take at xs) (drop (suc at) xs) in
     omega (arith, a, b, d, g)
+
+pub sumBy-removed-le : {X : Type 0} (f : X → ℕ) (xs : List X) (at : ℕ) → sumBy f (removed xs at) ≤ sumBy f xs
+sumBy-removed-le f xs at =
+    let a = sumBy-append f (take at xs) (drop (suc at) xs) in
+    let b = sumBy-take-drop f xs at in
+    let d = sumBy-take-drop f (drop at xs) 1 in
+    let e = ap (sumBy f) (drop-drop 1 at xs ∙ ap (λ k. drop k xs) (add-one at)) in
+    omega (arith, a, b, d, e)
 
 -- What a move keeps: how many slots stand in all, and how often each.
 pub record Moved (us us′ : List SlotRow) (fs fs′ : List ℕ) : Type 0 where

@@ -36,9 +36,11 @@ abbrev pub fault : ℕ → RoomFault
 fault cause = record { layer = 0; cause = cause }
 
 -- Room needs a payload within a slot, else cause 1, and then fewer entries than slots, else cause 2.
+abbrev pub roomAmong : ℕ → ℕ → ℕ → ℕ → Option RoomFault
+roomAmong size slots used n = cond (leb n size) (cond (ltb used slots) None (Some (fault 2))) (Some (fault 1))
+
 abbrev pub roomOf : SlotStore → ℕ → ℕ → Option RoomFault
-roomOf s m n =
-    cond (leb n (s .size)) (cond (ltb (length (entries s)) (slotCount (s .table))) None (Some (fault 2))) (Some (fault 1))
+roomOf s m n = roomAmong (s .size) (slotCount (s .table)) (length (entries s)) n
 
 -- The floor is the slot size.
 abbrev pub floorOf : SlotStore → ℕ

@@ -13,7 +13,7 @@ returns-then-at-staged-count c =
     let s = c .args .self .now in tells-past (staged (lotOf s)) (c .args .at) (omega (arith, c .staged-count .ensures, c .if-at-staged-count .taken))
 
 pub add-self : need.add-self
-add-self c = ?
+add-self c = let s = c .args .self .now in omega (arith, s .table .whole, s .table .few, c .staged-count .ensures, staged-length s, c .if-at-staged-count .left)
 
 pub returns : need.returns
 returns c = c .summary .ensures ∙ sym (ap (λ v. present (mapped summary v)) (staged-at (c .args .self .now) (c .args .at)))
