@@ -1,9 +1,9 @@
-ghost use Prim.Native.Nat.{ℕ, _+_, _/_, _<_, _≤_};
-ghost use Rattle.slots.specs.Stores.{entries, fault, floorOf, heldOf, lawful, lotOf, roomOf};
+ghost use Prim.Native.Nat.{_+_, _/_, _≤_};
+ghost use Rattle.slots.specs.Stores.{LawfulSlots, entries, floorOf, heldOf, lotOf, roomOf, slotsOf};
 ghost use Rattle.spool.specs.Refusals.{notice, plain, told};
 ghost use Rattle.spool.specs.Rules.{tells};
-ghost use Rattle.std.specs.Of.Vec.{vec-items};
-ghost use Rattle.std.specs.Results.{Cases, isOk};
+ghost use Rattle.std.specs.Of.Vec.{vec-len};
+ghost use Rattle.std.specs.Results.{Cases};
 ghost use Rattle.std.specs.declared.option.Option.the-variants.{None};
 ghost use lib.ListN.{drop, length, take};
 ghost use mathlib.Core.List.{[], _++_};
@@ -17,20 +17,19 @@ use spool::refusal::Refusal;
 use spool::refusal::Rejected;
 use spool::refusal::RoomFault;
 
-// An empty store over memory that is cut into a slot for each row. Where that is not lawful, the memory is handed back.
+// An empty store with a slot for each row; refused, and the memory handed back, where that is not lawful.
 pub fn build(octets: Vec<u8>, rows: Vec<SlotRow>) -> Result<SlotStore, Rejected<(Vec<u8>, Vec<SlotRow>)>>
-    ensures when { λ r. ⌜ isOk r ≡ lawful (length (vec-items rows)) (length (vec-items octets)) ⌝ }
-    ensures what { λ r. ⌜ Cases r (λ s. (heldOf s ≡ []) × (lotOf s ≡ None) × (floorOf s ≡ length (vec-items octets) / length (vec-items rows))) (λ e. (notice (e .refusal) ≡ plain 14) × (e .given ≡ (octets, rows))) ⌝ }
+    ensures { λ r. ⌜ Cases r (λ s. LawfulSlots (vec-len octets) (vec-len rows) × (heldOf s ≡ []) × (lotOf s ≡ None) × (slotsOf s ≡ vec-len rows) × (floorOf s ≡ vec-len octets / vec-len rows)) (λ e. (notice (e .refusal) ≡ plain 14) × (e .given ≡ (octets, rows)) × (LawfulSlots (vec-len octets) (vec-len rows) → ⊥)) ⌝ }
 {
     let count = rows.len();
-    if count < 1 || count > 32 {
+    if count < 1 || count > 32 || octets.len() % count != 0 {
         return Err(Rejected {
             refusal: Refusal::Unlawful,
             given: (octets, rows),
         });
     }
     let size = octets.len() / count;
-    if octets.len() % count != 0 || size < 512 || size > 65536 {
+    if size < 512 || size > 65536 {
         return Err(Rejected {
             refusal: Refusal::Unlawful,
             given: (octets, rows),

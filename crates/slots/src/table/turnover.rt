@@ -1,4 +1,4 @@
-ghost use Prim.Native.Nat.{ℕ, _+_, _<_, _≤_};
+ghost use Prim.Native.Nat.{_<_, _≤_};
 ghost use Rattle.slots.specs.Tables.{slotCount, usedRows};
 ghost use Rattle.spool.specs.Lists.{present};
 ghost use Rattle.spool.specs.Refusals.{told};
@@ -15,7 +15,7 @@ use spool::refusal::Refusal;
 
 impl SlotTable {
     // A table whose slots are all free.
-    pub fn new(rows: Vec<SlotRow>) -> SlotTable
+    pub(crate) fn new(rows: Vec<SlotRow>) -> SlotTable
         requires { ⌜ length (vec-items rows) ≤ 32 ⌝ }
         ensures empty { λ r. ⌜ usedRows r ≡ [] ⌝ }
         ensures rows { λ r. ⌜ r .rows ≡ rows ⌝ }
@@ -34,28 +34,28 @@ impl SlotTable {
     }
 
     // How many slots there are.
-    pub fn slots(&self) -> usize
+    pub(crate) fn slots(&self) -> usize
         ensures { λ r. ⌜ r ≡ slotCount (now (self .entry)) ⌝ }
     {
         self.rows.len()
     }
 
     // How many entries there are.
-    pub fn len(&self) -> usize
+    pub(crate) fn len(&self) -> usize
         ensures { λ r. ⌜ r ≡ length (usedRows (now (self .entry))) ⌝ }
     {
         self.used.len(self.rows.as_slice())
     }
 
     // The row of an entry.
-    pub fn row(&self, at: usize) -> Result<SlotRow, Refusal>
+    pub(crate) fn row(&self, at: usize) -> Result<SlotRow, Refusal>
         ensures { λ r. ⌜ told r ≡ present (nth (usedRows (now (self .entry))) at) ⌝ }
     {
         self.used.get(self.rows.as_slice(), at)
     }
 
     // Takes a free slot for a new entry, whose row comes behind the others, and answers it.
-    pub fn claim(&mut self, mailbox: usize, size: usize) -> usize
+    pub(crate) fn claim(&mut self, mailbox: usize, size: usize) -> usize
         requires { ⌜ length (usedRows (now self)) < slotCount (now self) ⌝ }
         ensures rows { λ r. ⌜ usedRows (now (self .exit)) ≡ usedRows (now (self .entry)) ++ (record { slot = r; length = size; mailbox = mailbox }) ∷ [] ⌝ }
         ensures slots { λ _. ⌜ slotCount (now (self .exit)) ≡ slotCount (now (self .entry)) ⌝ }
@@ -73,7 +73,7 @@ impl SlotTable {
     }
 
     // Takes out the row of an entry, and frees its slot.
-    pub fn release(&mut self, at: usize)
+    pub(crate) fn release(&mut self, at: usize)
         requires { ⌜ at < length (usedRows (now self)) ⌝ }
         ensures rows { λ _. ⌜ usedRows (now (self .exit)) ≡ removed (usedRows (now (self .entry))) at ⌝ }
         ensures slots { λ _. ⌜ slotCount (now (self .exit)) ≡ slotCount (now (self .entry)) ⌝ }
@@ -84,7 +84,7 @@ impl SlotTable {
     }
 
     // Keeps the rows of the first entries, and frees the slots of the others.
-    pub fn keep(&mut self, len: usize)
+    pub(crate) fn keep(&mut self, len: usize)
         requires { ⌜ len ≤ length (usedRows (now self)) ⌝ }
         ensures rows { λ _. ⌜ usedRows (now (self .exit)) ≡ take len (usedRows (now (self .entry))) ⌝ }
         ensures slots { λ _. ⌜ slotCount (now (self .exit)) ≡ slotCount (now (self .entry)) ⌝ }
