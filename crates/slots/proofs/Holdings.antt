@@ -1,25 +1,25 @@
 -- What a slot store holds and has staged, and whether it has room.
 use mathlib.Core.Path.{_≡_, refl, sym, ap, _∙_}
 use mathlib.Core.Bool.{true, false, cond}
-use mathlib.Core.List.{List, [], _∷_, _++_, map}
+use mathlib.Core.List.{[]}
 use mathlib.Core.Logic.{inl, inr}
 use Prim.Native.Nat.{ℕ, _+_, _-_, _*_, _≤_, _<_}
 use native.Mathlib.Omega.{arith}
 use lib.Dec.{eqb, leb, ltb}
-use lib.ListN.{length, take, drop, getD}
+use lib.ListN.{length, drop, getD}
 use Rattle.std.specs.Finite.{nth}
 use Rattle.std.specs.Options.{mapped}
 use Rattle.std.specs.declared.option.Option.{Option}
 use Rattle.std.specs.declared.option.Option.the-variants.{Some, None}
 use Rattle.std.specs.declared.result.Result.the-variants.{Ok, Err}
-use Rattle.std.proofs.shelf.Lists.{drop-all, length-drop, length-map, length-push, length-take-le, take-all}
-use Rattle.std.proofs.shelf.Sums.{getD-le-sumBy, sumBy-push}
+use Rattle.std.proofs.shelf.Lists.{drop-all, length-drop, length-map, length-take-le, take-all}
+use Rattle.std.proofs.shelf.Sums.{getD-le-sumBy}
 use Rattle.std.proofs.shelf.Tests.{cases-bool, cases-lt, cond-true, cond-false, eq-eqb, le-leb, le-ltb, lt-leb, lt-ltb, ltb-false, ltb-true}
 use Rattle.spool.specs.Entries.{Entry}
 use Rattle.spool.specs.Lists.{present}
 use Rattle.spool.specs.Refusals.{Notice, plain}
 use Rattle.spool.specs.Rules.{staged}
-use Rattle.slots.specs.Slots.{once, overlong, takes}
+use Rattle.slots.specs.Slots.{overlong, takes}
 use Rattle.slots.specs.Stores.{entries, fault, floorOf, heldOf, lotOf, roomAmong, roomOf, view}
 use Rattle.slots.specs.Tables.{slotCount, usedRows}
 use Rattle.slots.specs.declared.row.SlotRow.{SlotRow}
@@ -80,12 +80,12 @@ lies s at r e =
     let f : SlotRow → ℕ = λ x. cond (ltb (s .size) (x .length)) 1 0 in
     let g : f (getD us at r) ≤ overlong (s .size) us = getD-le-sumBy f us at r (i .0) in
     let l : r .length ≤ s .size =
-        elim (cases-bool (ltb (s .size) (r .length))) [
-          | inl y ↦ absurd (omega (arith, g, ap f (i .1), s .short, cond-true {A = ℕ} (ltb (s .size) (r .length)) 1 0 y))
-          | inr n ↦ ltb-false (s .size) (r .length) n
-        ] in
+    elim (cases-bool (ltb (s .size) (r .length))) [
+      | inl y ↦ absurd (omega (arith, g, ap f (i .1), s .short, cond-true {A = ℕ} (ltb (s .size) (r .length)) 1 0 y))
+      | inr n ↦ ltb-false (s .size) (r .length) n
+    ] in
     let k : r .slot * s .size + r .length ≤ length (s .octets .items) =
-        omega (arith, l, slot-below (r .slot) (slotCount (s .table)) (s .size) (slot-there (s .table) at r e), s .even) in
+    omega (arith, l, slot-below (r .slot) (slotCount (s .table)) (s .size) (slot-there (s .table) at r e), s .even) in
     record {
       short = l;
       ends = k;
@@ -120,7 +120,7 @@ pub payload-short : (s : SlotStore) (at : ℕ) (e : Entry) → nth (heldOf s) at
 payload-short s at e h =
     let i = nth-is (heldOf s) at e h in
     let r = mapped-some (view (s .octets .items) (s .size)) (nth (usedRows (s .table)) at) e
-        (sym (entry-at s at) ∙ sym (held-at s at (omega (arith, i .0, held-length s))) ∙ h) in
+    (sym (entry-at s at) ∙ sym (held-at s at (omega (arith, i .0, held-length s))) ∙ h) in
     let l = lies s at (r .0) (r .1) in
     omega (arith, l .short, l .long, ap (λ v. length (v .payload)) (r .2))
 

@@ -1,6 +1,6 @@
 -- What staging leaves of a slot store.
-use mathlib.Core.Path.{_≡_, refl, sym, ap, _∙_, subst}
-use mathlib.Core.Bool.{true, false, cond}
+use mathlib.Core.Path.{_≡_, refl, ap, _∙_}
+use mathlib.Core.Bool.{cond}
 use mathlib.Core.List.{List, [], _∷_, _++_, map}
 use mathlib.Core.Logic.{inl, inr}
 use Prim.Native.Nat.{ℕ, _+_, _*_, _≤_, _<_}
@@ -14,18 +14,17 @@ use Rattle.std.specs.declared.result.Result.the-variants.{Ok, Err}
 use Rattle.std.proofs.shelf.Lists.{length-push, refilled-is}
 use Rattle.std.proofs.shelf.Sums.{sumBy-push}
 use Rattle.std.proofs.shelf.Tests.{cases-bool, cond-true, cond-false, eq-eqb, le-ltb, lt-ltb, ltb-true}
-use Rattle.spool.specs.Entries.{Entry}
 use Rattle.spool.specs.Refusals.{plain}
 use Rattle.spool.specs.Rules.{asksRoom, unlessFault}
 use Rattle.spool.specs.declared.refusal.RoomFault.{RoomFault}
-use Rattle.slots.specs.Slots.{once, overlong, takes}
+use Rattle.slots.specs.Slots.{overlong, takes}
 use Rattle.slots.specs.Stores.{entries, roomOf, view}
 use Rattle.slots.specs.Tables.{slotCount, usedRows}
 use Rattle.slots.specs.declared.row.SlotRow.{SlotRow}
 use Rattle.slots.specs.declared.store.SlotStore.{SlotStore}
 use Rattle.slots.specs.declared.table.SlotTable.{SlotTable}
 use Rattle.slots.proofs.Holdings.{has-room}
-use Rattle.slots.proofs.Views.{overwritten, slot-below, views-more}
+use Rattle.slots.proofs.Views.{newRow, overwritten, slot-below, views-more}
 
 -- A slot that a new row has is one that there is, and no other row has it.
 pub fresh : (t t′ : SlotTable) (r : SlotRow) → usedRows t′ ≡ usedRows t ++ r ∷ [] → (takes (r .slot) (usedRows t) ≡ 0) × (r .slot < slotCount t′)
@@ -47,20 +46,20 @@ room-told m (Some f) x l e =
 
 -- A free slot is taken for a payload that there is room for.
 module _ (s : SlotStore) (t′ : SlotTable) (slot m : ℕ) (p : List ℕ) (room : roomOf s m (length p) ≡ None)
-    (rows : usedRows t′ ≡ usedRows (s .table) ++ (record { slot = slot; length = length p; mailbox = m }) ∷ []) (slots : slotCount t′ ≡ slotCount (s .table)) where
+    (rows : usedRows t′ ≡ usedRows (s .table) ++ newRow slot m p ∷ []) (slots : slotCount t′ ≡ slotCount (s .table)) where
   pub payload-ends : slot * s .size + length p ≤ length (s .octets .items)
   payload-ends =
-      let l : slot < slotCount (s .table) = omega (arith, slots, fresh (s .table) t′ (record { slot = slot; length = length p; mailbox = m }) rows .1) in
+      let l : slot < slotCount (s .table) = omega (arith, slots, fresh (s .table) t′ (newRow slot m p) rows .1) in
       omega (arith, has-room s m (length p) room .0, slot-below slot (slotCount (s .table)) (s .size) l, s .even)
 
   pub rows-longer : length (usedRows t′) ≡ length (usedRows (s .table)) + 1
-  rows-longer = ap length rows ∙ length-push (usedRows (s .table)) (record { slot = slot; length = length p; mailbox = m })
+  rows-longer = ap length rows ∙ length-push (usedRows (s .table)) (newRow slot m p)
 
   pub rows-short : overlong (s .size) (usedRows t′) ≡ 0
   rows-short =
       let f : SlotRow → ℕ = λ x. cond (ltb (s .size) (x .length)) 1 0 in
       let z : cond (ltb (s .size) (length p)) 1 0 ≡ 0 = cond-false {A = ℕ} (ltb (s .size) (length p)) 1 0 (le-ltb (s .size) (length p) (has-room s m (length p) room .0)) in
-      omega (arith, z, ap (overlong (s .size)) rows, sumBy-push f (usedRows (s .table)) (record { slot = slot; length = length p; mailbox = m }), s .short)
+      omega (arith, z, ap (overlong (s .size)) rows, sumBy-push f (usedRows (s .table)) (newRow slot m p), s .short)
 
   -- and the payload is written into it: the octets were lent, as `xs`, and came back as `ws`
   module _ (xs ws : List ℕ) (lent : xs ≡ s .octets .items) (back : length ws ≡ s .octets .len) (wrote : ws ≡ overwritten xs (slot * s .size) p) where
@@ -72,4 +71,4 @@ module _ (s : SlotStore) (t′ : SlotTable) (slot m : ℕ) (p : List ℕ) (room 
         ap (λ v. map (view v (s .size)) (usedRows t′)) (refilled-is (s .octets) ws back ∙ wrote ∙ ap (λ v. overwritten v (slot * s .size) p) lent)
         ∙ ap (map (view (overwritten (s .octets .items) (slot * s .size) p) (s .size))) rows
         ∙ views-more (s .octets .items) (s .size) slot p (has-room s m (length p) room .0) payload-ends (usedRows (s .table)) m
-        (fresh (s .table) t′ (record { slot = slot; length = length p; mailbox = m }) rows .0) (s .short)
+        (fresh (s .table) t′ (newRow slot m p) rows .0) (s .short)

@@ -1,8 +1,8 @@
 -- The entries that rows stand for, and what a payload that is written into a slot leaves of them.
 use mathlib.Core.Path.{_≡_, refl, sym, ap, _∙_}
-use mathlib.Core.Bool.{Bool, true, false, cond}
+use mathlib.Core.Bool.{cond}
 use mathlib.Core.List.{List, [], _∷_, _++_, map}
-use mathlib.Core.Logic.{_⊎_, inl, inr}
+use mathlib.Core.Logic.{inl, inr}
 use Prim.Native.Nat.{ℕ, zero, suc, _+_, _-_, _*_, _≤_, _<_}
 use native.Mathlib.Nat.{add-mul, mul-le-mul-right, one-mul}
 use native.Mathlib.Omega.{arith}
@@ -11,11 +11,10 @@ use lib.ListN.{length, take, drop, getD}
 use Rattle.std.specs.Finite.{nth}
 use Rattle.std.specs.Holes.{removed}
 use Rattle.std.specs.Options.{mapped}
-use Rattle.std.specs.declared.option.Option.the-variants.{Some, None}
+use Rattle.std.specs.declared.option.Option.the-variants.{Some}
 use Rattle.std.proofs.shelf.Lists.{append-assoc, drop-at, drop-drop, drop-map, drop-take, length-append, length-take-le, map-append, map-push, take-append-le, take-at, take-map, take-take}
 use Rattle.std.proofs.shelf.Sums.{sumBy-cons}
-use Rattle.std.proofs.shelf.Tests.{cases-bool, cases-order, cond-true, cond-false, eq-eqb, lt-ltb, ltb-true, ltb-false}
-use Rattle.spool.specs.Entries.{Entry}
+use Rattle.std.proofs.shelf.Tests.{cases-bool, cases-order, cond-true, eq-eqb, ltb-false}
 use Rattle.slots.specs.Slots.{overlong, takes}
 use Rattle.slots.specs.Stores.{view}
 use Rattle.slots.specs.declared.row.SlotRow.{SlotRow}
@@ -72,10 +71,14 @@ module _ (octets : List ℕ) (at : ℕ) (payload : List ℕ) (fits : at + length
       let n = at + length payload in
       let e : n + (from - n) ≡ from = omega arith in
       let whole : drop n (overwritten octets at payload) ≡ drop n octets =
-          ap (drop n) (sym (append-assoc (take at octets) payload (drop n octets)))
-          ∙ drop-at (take at octets ++ payload) (drop n octets) n (omega (arith, length-append (take at octets) payload, front-length)) in
+      ap (drop n) (sym (append-assoc (take at octets) payload (drop n octets)))
+      ∙ drop-at (take at octets ++ payload) (drop n octets) n (omega (arith, length-append (take at octets) payload, front-length)) in
       ap (take len) (ap (λ k. drop k (overwritten octets at payload)) (sym e) ∙ sym (drop-drop (from - n) n (overwritten octets at payload))
       ∙ ap (drop (from - n)) whole ∙ drop-drop (from - n) n octets ∙ ap (λ k. drop k octets) e)
+
+-- The row of a payload in a slot.
+abbrev pub newRow : ℕ → ℕ → List ℕ → SlotRow
+newRow slot mailbox payload = record { slot = slot; length = length payload; mailbox = mailbox }
 
 -- A payload that is written into a slot leaves the entries that lie in others.
 module _ (octets : List ℕ) (size slot : ℕ) (payload : List ℕ) (within : length payload ≤ size) (fits : slot * size + length payload ≤ length octets) where
@@ -95,18 +98,18 @@ module _ (octets : List ℕ) (size slot : ℕ) (payload : List ℕ) (within : le
       let b = sumBy-cons (λ (x : SlotRow). cond (ltb size (x .length)) 1 0) r rs in
       let ne : r .slot ≡ slot → ⊥ = λ e. omega (arith, a, t, cond-true {A = ℕ} (eqb (r .slot) slot) 1 0 (eq-eqb (r .slot) slot e)) in
       let l : r .length ≤ size =
-          elim (cases-bool (ltb size (r .length))) [
-            | inl y ↦ absurd (omega (arith, b, o, cond-true {A = ℕ} (ltb size (r .length)) 1 0 y))
-            | inr n ↦ ltb-false size (r .length) n
-          ] in
+      elim (cases-bool (ltb size (r .length))) [
+        | inl y ↦ absurd (omega (arith, b, o, cond-true {A = ℕ} (ltb size (r .length)) 1 0 y))
+        | inr n ↦ ltb-false size (r .length) n
+      ] in
       ap (λ v. v ∷ map (view (overwritten octets (slot * size) payload) size) rs) (view-apart r l ne)
       ∙ ap (λ v. view octets size r ∷ v) (views-kept rs (omega (arith, a, t)) (omega (arith, b, o)))
 
   -- and the row that is put behind theirs has the payload
   pub views-more : (rs : List SlotRow) (mailbox : ℕ) → takes slot rs ≡ 0 → overlong size rs ≡ 0 →
-      map (view (overwritten octets (slot * size) payload) size) (rs ++ (record { slot = slot; length = length payload; mailbox = mailbox }) ∷ [])
+      map (view (overwritten octets (slot * size) payload) size) (rs ++ newRow slot mailbox payload ∷ [])
       ≡ map (view octets size) rs ++ (record { mailbox = mailbox; payload = payload }) ∷ []
   views-more rs mailbox t o =
-      map-push (view (overwritten octets (slot * size) payload) size) rs (record { slot = slot; length = length payload; mailbox = mailbox })
+      map-push (view (overwritten octets (slot * size) payload) size) rs (newRow slot mailbox payload)
       ∙ ap (λ v. v ++ (record { mailbox = mailbox; payload = take (length payload) (drop (slot * size) (overwritten octets (slot * size) payload)) }) ∷ []) (views-kept rs t o)
       ∙ ap (λ v. map (view octets size) rs ++ (record { mailbox = mailbox; payload = v }) ∷ []) (read-back octets (slot * size) payload fits)

@@ -18,7 +18,10 @@ use spool::refusal::Rejected;
 use spool::refusal::RoomFault;
 
 // An empty store with a slot for each row; refused, and the memory handed back, where that is not lawful.
-pub fn build(octets: Vec<u8>, rows: Vec<SlotRow>) -> Result<SlotStore, Rejected<(Vec<u8>, Vec<SlotRow>)>>
+pub fn build(
+    octets: Vec<u8>,
+    rows: Vec<SlotRow>,
+) -> Result<SlotStore, Rejected<(Vec<u8>, Vec<SlotRow>)>>
     ensures { λ r. ⌜ Cases r (λ s. LawfulSlots (vec-len octets) (vec-len rows) × (heldOf s ≡ []) × (lotOf s ≡ None) × (slotsOf s ≡ vec-len rows) × (floorOf s ≡ vec-len octets / vec-len rows)) (λ e. (notice (e .refusal) ≡ plain 14) × (e .given ≡ (octets, rows)) × (LawfulSlots (vec-len octets) (vec-len rows) → ⊥)) ⌝ }
 {
     let count = rows.len();
@@ -135,7 +138,12 @@ pub impl Spool for SlotStore as SlotSpool {
         if row.length > buffer.len() {
             return Err(Refusal::ShortBuffer);
         }
-        copy_out(self.octets.as_slice(), row.slot * self.size, row.length, buffer);
+        copy_out(
+            self.octets.as_slice(),
+            row.slot * self.size,
+            row.length,
+            buffer,
+        );
         Ok(row.length)
     }
 

@@ -1,6 +1,5 @@
 use native.Mathlib.Omega.{arith}
 use mathlib.Core.Path.{_≡_}
-use mathlib.Core.List.{List, [], _∷_, _++_}
 use Prim.Native.Nat.{_-_}
 use lib.ListN.{length, getD}
 use Rattle.std.specs.Changed.{refilled}
@@ -20,8 +19,10 @@ ghost-self c =
     let k : length (refilled (t .rows) rs .items) ≡ slotCount t = slots-kept t ys rs (c .append .last .self) (c .as-mut-slice .ensures .value) (omega arith) in
     let u = rows-in t ys rs (c .append .last .self) (c .as-mut-slice .ensures .value) (omega arith) r (c .pre) (c .append .ensures .after) in
     let f = last-out (t .numbers) (t .free) (c .truncate .last .self) n 0 (c .len-last .ensures) (omega (arith, t .whole, c .pre, c .len-last .ensures)) (c .truncate .ensures) in
-    let m = moved-in (usedRows t) _ (records (t .free) (t .numbers)) _ r u f in
-    (omega (arith, k, t .few), (t .wide, (whole-kept t _ _ _ m k, (apart-kept t _ _ _ m k, tt))))
+    let us′ = records (c .append .last .self) (refilled (t .rows) rs .items) in
+    let fs′ = records (c .truncate .last .self) (t .numbers) in
+    let m = moved-in (usedRows t) us′ (records (t .free) (t .numbers)) fs′ r u f in
+    (omega (arith, k, t .few), (t .wide, (whole-kept t us′ fs′ (length (refilled (t .rows) rs .items)) m k, (apart-kept t us′ fs′ (length (refilled (t .rows) rs .items)) m k, tt))))
 
 pub returns : need.returns
 returns c =

@@ -1,6 +1,6 @@
 use native.Mathlib.Omega.{arith}
 use mathlib.Core.Path.{_≡_, refl, sym, ap, _∙_}
-use Prim.Native.Nat.{_-_, _≤_}
+use Prim.Native.Nat.{_-_}
 use lib.ListN.{length, take}
 use Rattle.std.specs.Holes.{removed}
 use Rattle.std.proofs.shelf.Lists.{length-take-le, take-all}
@@ -16,11 +16,11 @@ release-requires c κs = omega (arith, ap length (c .loop-at .inv .0), length-ta
 
 pub loop-at-again : need.loop-at-again
 loop-at-again c = (
-    c .release .ensures .rows ∙ ap (λ v. removed v (c .loop-at .at - 1)) (c .loop-at .inv .0)
-    ∙ removed-last (usedRows (c .args .self .now)) (c .loop-at .at) (c .loop-at .at - 1) (omega arith) (omega arith),
-    c .release .ensures .slots ∙ c .loop-at .inv .1,
-    omega arith,
-  )
+  c .release .ensures .rows ∙ ap (λ v. removed v (c .loop-at .at - 1)) (c .loop-at .inv .0)
+      ∙ removed-last (usedRows (c .args .self .now)) (c .loop-at .at) (c .loop-at .at - 1) (omega arith) (omega arith),
+  c .release .ensures .slots ∙ c .loop-at .inv .1,
+  omega arith,
+)
 
 pub returns : need.returns
 returns c =

@@ -16,9 +16,11 @@ ghost-self c =
     let rs = c .remove .last .memory in
     let k : length (refilled (t .rows) rs .items) ≡ slotCount t = slots-kept t ys rs (c .remove .last .self) (c .as-mut-slice .ensures .value) (omega arith) in
     let u = rows-out t ys rs (c .remove .last .self) (c .as-mut-slice .ensures .value) (omega arith) at (c .pre) (c .remove .ensures .after) in
-    let f = append-in (records (t .free) (t .numbers)) _ (length (t .numbers)) (r .slot) (omega (arith, t .few, t .wide, t .whole, c .pre)) (c .append .ensures .after) in
-    let m = moved-out (usedRows t) _ (records (t .free) (t .numbers)) _ at r (c .pre) (row-at t at r (c .pre) (c .index .ensures)) u f in
-    (omega (arith, k, t .few), (omega (arith, t .wide), (whole-kept t _ _ _ m k, (apart-kept t _ _ _ m k, tt))))
+    let us′ = records (c .remove .last .self) (refilled (t .rows) rs .items) in
+    let fs′ = records (c .append .last .self) (c .append .last .memory) in
+    let f = append-in (records (t .free) (t .numbers)) fs′ (length (t .numbers)) (r .slot) (omega (arith, t .few, t .wide, t .whole, c .pre)) (c .append .ensures .after) in
+    let m = moved-out (usedRows t) us′ (records (t .free) (t .numbers)) fs′ at r (c .pre) (row-at t at r (c .pre) (c .index .ensures)) u f in
+    (omega (arith, k, t .few), (omega (arith, t .wide), (whole-kept t us′ fs′ (length (refilled (t .rows) rs .items)) m k, (apart-kept t us′ fs′ (length (refilled (t .rows) rs .items)) m k, tt))))
 
 pub returns : need.returns
 returns c =

@@ -12,7 +12,7 @@ use Rattle.std.proofs.shelf.Tests.{cond-false, le-ltb, true≢false}
 use Rattle.spool.specs.Rules.{remains, removes}
 use Rattle.spool.proofs.Told.{remains-done, removes-done}
 use Rattle.slots.specs.Slots.{overlong}
-use Rattle.slots.specs.Stores.{entries, heldOf, lotOf, view}
+use Rattle.slots.specs.Stores.{heldOf, lotOf, view}
 use Rattle.slots.specs.Tables.{slotCount, usedRows}
 use Rattle.slots.specs.declared.row.SlotRow.{SlotRow}
 use Rattle.slots.proofs.Holdings.{held-all, held-length, lot-none, payload-short, room-there}

@@ -46,8 +46,7 @@ ghost-self c =
     let slots = c .claim-slot .ensures .slots in
     let u = room-told m _ _ (omega (arith, c .if-mailbox-gt63 .left)) (c .in-Continue-room .ensures tt) in
     let k = octets-kept s t′ slot m p u rows slots (c .as-mut-slice .result .now) (c .fill .last .octets) (c .as-mut-slice .ensures .value) (omega arith) (c .fill .ensures) in
-    let n = rows-longer s t′ slot m p u rows slots in
-    (
+    let n = rows-longer s t′ slot m p u rows slots in (
       ap (λ v. v * s .size) slots ∙ s .even ∙ sym k,
       (
         s .high,
@@ -77,7 +76,7 @@ returns c =
     let u : roomOf s m (length p) ≡ None = room-told m _ _ l (c .in-Continue-room .ensures tt) in
     let o = lot-some s (c .if-not-self .left) in
     let a = entries-more s (c .claim-slot .last .self) (c .claim-slot .result) m p u (c .claim-slot .ensures .rows) (c .claim-slot .ensures .slots)
-        (c .as-mut-slice .result .now) (c .fill .last .octets) (c .as-mut-slice .ensures .value) (omega arith) (c .fill .ensures) in
+    (c .as-mut-slice .result .now) (c .fill .last .octets) (c .as-mut-slice .ensures .value) (omega arith) (c .fill .ensures) in
     let f : s .filed ≤ length (entries s) = omega (arith, entries-length s, s .front) in
     record {
       refused = λ h. absurd (true≢false h);
