@@ -11,11 +11,11 @@ ghost use mathlib.Core.Path.{_≡_};
 use super::SlotStore;
 use crate::row::SlotRow;
 use crate::table::SlotTable;
-use spool::entry::Summary;
-use spool::interface::Spool;
 use refusals::refusal::Refusal;
 use refusals::refusal::Rejected;
 use refusals::refusal::RoomFault;
+use spool::entry::Summary;
+use spool::interface::Spool;
 
 // An empty store with a slot for each row; refused, and the memory handed back, where that is not lawful.
 pub fn build(

@@ -10,8 +10,8 @@ ghost use mathlib.Core.List.{[], _∷_, _++_};
 ghost use mathlib.Core.Path.{_≡_};
 use super::SlotTable;
 use crate::row::SlotRow;
-use spool::list::OrderedList;
 use refusals::refusal::Refusal;
+use spool::list::OrderedList;
 
 impl SlotTable {
     // A table whose slots are all free.

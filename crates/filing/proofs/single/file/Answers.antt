@@ -45,7 +45,7 @@ returns-in-Ok-stage g c =
             keeps = s .held;
           };
           commits = record { ended = c .commit .ensures .lot; files = c .commit .ensures .held };
-        }
+        },
       );
       floor = c .commit .ensures .floor ∙ s .floor ∙ o .floor;
       within = λ w. c .commit .ensures .within (s .within (o .within w));
