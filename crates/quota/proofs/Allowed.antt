@@ -1,0 +1,132 @@
+-- Laws of the room under limits, and of what keeps within them.
+use mathlib.Core.Path.{_≡_, refl, sym, ap, _∙_, subst}
+use mathlib.Core.Bool.{true, cond}
+use mathlib.Core.List.{List}
+use mathlib.Core.Logic.{inl, inr}
+use Prim.Native.Nat.{ℕ, _+_, _≤_, _<_}
+use native.Mathlib.Omega.{arith}
+use lib.Dec.{eqb, leb, ltb}
+use lib.ListN.{length}
+use Rattle.std.specs.Options.{isSome, mapped}
+use Rattle.std.specs.declared.option.Option.{Option}
+use Rattle.std.specs.declared.option.Option.the-variants.{Some, None}
+use Rattle.std.specs.declared.result.Result.{Result}
+use Rattle.std.specs.declared.result.Result.the-variants.{Ok, Err}
+use Rattle.std.specs.shelf.Lists.{sumBy}
+use Rattle.std.proofs.shelf.Sums.{sumBy-append}
+use Rattle.std.proofs.shelf.Tests.{cases-bool, cases-eq, cond-false, cond-true, eq-eqb, le-leb, leb-true, lt-leb, lt-ltb, ne-eqb}
+use Rattle.spool.specs.Entries.{Entry}
+use Rattle.spool.specs.Refusals.{Notice}
+use Rattle.spool.specs.Rules.{asksRoom, staged, unlessFault}
+use Rattle.spool.specs.declared.refusal.RoomFault.{RoomFault}
+use Rattle.quota.specs.Quotas.{Kept, allows, lifted, own, raised}
+use Rattle.quota.specs.Shares.{both, entriesOf, octetsOf, share}
+use Rattle.quota.specs.declared.limits.Limits.{Limits}
+use Rattle.quota.proofs.Counts.{Fewer}
+
+some-none : {X C : Type 0} (x : X) → _≡_ {A = Option X} (Some x) None → C
+some-none x h = let z : _≡_ {A = ℕ} 0 1 = cc in absurd (omega arith)
+
+unless-none : (f : Option RoomFault) → Ok tt ≡ unlessFault f → f ≡ None
+unless-none None h = refl
+unless-none (Some f) h = let z : _≡_ {A = ℕ} 0 1 = cc in absurd (omega arith)
+
+-- An answer from below.
+abbrev above : Result (Unit {0}) Notice → Result (Unit {0}) Notice
+above (Ok x) = Ok x
+above (Err n) = Err (raised n)
+
+above-is : (f : Option RoomFault) → above (unlessFault f) ≡ unlessFault (mapped lifted f)
+above-is None = refl
+above-is (Some f) = refl
+
+-- There is room: neither limit is reached, and there is room below.
+pub record Room (q : Limits) (es : List Entry) (m n : ℕ) (r : Option RoomFault) : Type 0 where
+  pub entries : entriesOf m es + 1 ≤ q .entries
+  pub octets : octetsOf m es + n ≤ q .octets
+  pub below : r ≡ None
+
+module _ (q : Limits) (es : List Entry) (m n : ℕ) (r : Option RoomFault) where
+  pub many-entries : q .entries < entriesOf m es + 1 → allows q es m n r ≡ own 5
+  many-entries h = cond-false (leb (entriesOf m es + 1) (q .entries)) _ _ (lt-leb _ _ h)
+
+  few-entries : entriesOf m es + 1 ≤ q .entries → allows q es m n r ≡ cond (leb (octetsOf m es + n) (q .octets)) (mapped lifted r) (own 6)
+  few-entries h = cond-true (leb (entriesOf m es + 1) (q .entries)) _ _ (le-leb _ _ h)
+
+  pub many-octets : entriesOf m es + 1 ≤ q .entries → q .octets < octetsOf m es + n → allows q es m n r ≡ own 6
+  many-octets h k = few-entries h ∙ cond-false (leb (octetsOf m es + n) (q .octets)) _ _ (lt-leb _ _ k)
+
+  pub few-octets : entriesOf m es + 1 ≤ q .entries → octetsOf m es + n ≤ q .octets → allows q es m n r ≡ mapped lifted r
+  few-octets h k = few-entries h ∙ cond-true (leb (octetsOf m es + n) (q .octets)) _ _ (le-leb _ _ k)
+
+  pub room-none : Room q es m n r → allows q es m n r ≡ None
+  room-none k = few-octets (k .entries) (k .octets) ∙ ap (mapped lifted) (k .below)
+
+  lifted-none : (f : Option RoomFault) → mapped lifted f ≡ None → f ≡ None
+  lifted-none None h = refl
+  lifted-none (Some f) h = some-none _ h
+
+  pub none-room : allows q es m n r ≡ None → Room q es m n r
+  none-room h =
+      elim (cases-bool (leb (entriesOf m es + 1) (q .entries))) [
+        | inl t ↦
+            let k : entriesOf m es + 1 ≤ q .entries = leb-true _ _ t in
+            elim (cases-bool (leb (octetsOf m es + n) (q .octets))) [
+              | inl u ↦
+                  let o : octetsOf m es + n ≤ q .octets = leb-true _ _ u in
+                  record { entries = k; octets = o; below = lifted-none r (sym (few-octets k o) ∙ h) }
+              | inr u ↦ some-none _ (sym (cond-false (leb (octetsOf m es + n) (q .octets)) _ _ u) ∙ sym (few-entries k) ∙ h)
+            ]
+        | inr t ↦ some-none _ (sym (cond-false (leb (entriesOf m es + 1) (q .entries)) _ _ t) ∙ h)
+      ]
+
+-- What a question for room answers, of a mailbox that there is.
+module _ (m : ℕ) (f : Option RoomFault) (inside : m < 64) where
+  asks-is : asksRoom m f ≡ unlessFault f
+  asks-is = cond-true (ltb m 64) (unlessFault f) _ (lt-ltb m 64 inside)
+
+  pub asks-none : Ok tt ≡ asksRoom m f → f ≡ None
+  asks-none h = unless-none f (h ∙ asks-is)
+
+module _ (q : Limits) (h : List Entry) (l : Option (List Entry)) (m n : ℕ) (r : Option RoomFault) (inside : m < 64) where
+  parts : (entriesOf m (both h l) ≡ entriesOf m h + entriesOf m (staged l)) × (octetsOf m (both h l) ≡ octetsOf m h + octetsOf m (staged l))
+  parts = (sumBy-append (share (λ e. 1) m) h (staged l), sumBy-append (share (λ e. length (e .payload)) m) h (staged l))
+
+  asks-as : (f : Option RoomFault) → allows q (both h l) m n r ≡ f → unlessFault f ≡ asksRoom m (allows q (both h l) m n r)
+  asks-as f e = sym (asks-is m (allows q (both h l) m n r) inside ∙ ap unlessFault e)
+
+  pub asks-many : q .entries ≤ entriesOf m h + entriesOf m (staged l) → unlessFault (own 5) ≡ asksRoom m (allows q (both h l) m n r)
+  asks-many a = asks-as (own 5) (many-entries q (both h l) m n r (omega (arith, parts)))
+
+  pub asks-long : entriesOf m h + entriesOf m (staged l) < q .entries → q .octets < octetsOf m h + octetsOf m (staged l) + n → unlessFault (own 6) ≡ asksRoom m (allows q (both h l) m n r)
+  asks-long a b = asks-as (own 6) (many-octets q (both h l) m n r (omega (arith, parts)) (omega (arith, parts)))
+
+  pub asks-below : entriesOf m h + entriesOf m (staged l) < q .entries → octetsOf m h + octetsOf m (staged l) + n ≤ q .octets →
+      (answer : Result (Unit {0}) Notice) → answer ≡ asksRoom m r → above answer ≡ asksRoom m (allows q (both h l) m n r)
+  asks-below a b answer e =
+      ap above (e ∙ asks-is m r inside) ∙ above-is r ∙ asks-as (mapped lifted r) (few-octets q (both h l) m n r (omega (arith, parts)) (omega (arith, parts)))
+
+-- What an entry counts for its own mailbox.
+pub share-self : (w : Entry → ℕ) (e : Entry) → share w (e .mailbox) e ≡ w e
+share-self w e = cond-true (eqb (e .mailbox) (e .mailbox)) (w e) 0 (eq-eqb (e .mailbox) (e .mailbox) refl)
+
+-- Fewer entries keep within limits, and so does an entry more that there is room for.
+pub kept-fewer : (q : Limits) (es es′ : List Entry) → Fewer es es′ → Kept q es → Kept q es′
+kept-fewer q es es′ s k m = (omega (arith, s (share (λ e. 1) m), k m .0), omega (arith, s (share (λ e. length (e .payload)) m), k m .1))
+
+one-more : (w : Entry → ℕ) (most m : ℕ) (es : List Entry) (e : Entry) → sumBy (share w (e .mailbox)) es + w e ≤ most → sumBy (share w m) es ≤ most → sumBy (share w m) es + share w m e ≤ most
+one-more w most m es e a b =
+    elim (cases-eq (e .mailbox) m) [
+      | inl i ↦ subst (λ (v : ℕ). sumBy (share w v) es + share w v e ≤ most) i (omega (arith, share-self w e))
+      | inr n ↦ omega (arith, cond-false (eqb (e .mailbox) m) (w e) 0 (ne-eqb _ _ n))
+    ]
+
+pub kept-more : (q : Limits) (es es′ : List Entry) (e : Entry) (r : Option RoomFault) → ((f : Entry → ℕ) → sumBy f es′ ≡ sumBy f es + f e) → Room q es (e .mailbox) (length (e .payload)) r → Kept q es → Kept q es′
+kept-more q es es′ e r s a k m = (
+  omega (arith, s (share (λ e. 1) m), one-more (λ e. 1) (q .entries) m es e (a .entries) (k m .0)),
+  omega (arith, s (share (λ e. length (e .payload)) m), one-more (λ e. length (e .payload)) (q .octets) m es e (a .octets) (k m .1)),
+)
+
+pub lot-staged : (l : Option (List Entry)) → isSome l ≡ true → l ≡ Some (staged l)
+lot-staged None h = let z : _≡_ {A = ℕ} 0 1 = cc in absurd (omega arith)
+lot-staged (Some es) h = refl
