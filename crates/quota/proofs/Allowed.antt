@@ -1,7 +1,7 @@
 -- Laws of the room under limits, and of what keeps within them.
 use mathlib.Core.Path.{_≡_, refl, sym, ap, _∙_, subst}
-use mathlib.Core.Bool.{true, cond}
-use mathlib.Core.List.{List}
+use mathlib.Core.Bool.{true, false, cond}
+use mathlib.Core.List.{List, [], _++_}
 use mathlib.Core.Logic.{inl, inr}
 use Prim.Native.Nat.{ℕ, _+_, _≤_, _<_}
 use native.Mathlib.Omega.{arith}
@@ -13,13 +13,14 @@ use Rattle.std.specs.declared.option.Option.the-variants.{Some, None}
 use Rattle.std.specs.declared.result.Result.{Result}
 use Rattle.std.specs.declared.result.Result.the-variants.{Ok, Err}
 use Rattle.std.specs.shelf.Lists.{sumBy}
+use Rattle.std.proofs.shelf.Lists.{nil-from-length}
 use Rattle.std.proofs.shelf.Sums.{sumBy-append}
-use Rattle.std.proofs.shelf.Tests.{cases-bool, cases-eq, cond-false, cond-true, eq-eqb, le-leb, leb-true, lt-leb, lt-ltb, ne-eqb}
+use Rattle.std.proofs.shelf.Tests.{and-from, cases-bool, cases-eq, cond-false, cond-true, eq-eqb, le-leb, leb-true, lt-leb, lt-ltb, ne-eqb, not-from-false}
 use Rattle.spool.specs.Entries.{Entry}
 use Rattle.spool.specs.Refusals.{Notice}
 use Rattle.spool.specs.Rules.{asksRoom, staged, unlessFault}
 use Rattle.spool.specs.declared.refusal.RoomFault.{RoomFault}
-use Rattle.quota.specs.Quotas.{Kept, allows, lifted, own, raised}
+use Rattle.quota.specs.Quotas.{Kept, allows, lawful, lifted, own, raised}
 use Rattle.quota.specs.Shares.{both, entriesOf, octetsOf, share}
 use Rattle.quota.specs.declared.limits.Limits.{Limits}
 use Rattle.quota.proofs.Counts.{Fewer}
@@ -39,6 +40,10 @@ above (Err n) = Err (raised n)
 above-is : (f : Option RoomFault) → above (unlessFault f) ≡ unlessFault (mapped lifted f)
 above-is None = refl
 above-is (Some f) = refl
+
+no-lot : (l : Option (List Entry)) → isSome l ≡ false → staged l ≡ []
+no-lot None h = refl
+no-lot (Some es) h = let z : _≡_ {A = ℕ} 0 1 = cc in absurd (omega arith)
 
 -- There is room: neither limit is reached, and there is room below.
 pub record Room (q : Limits) (es : List Entry) (m n : ℕ) (r : Option RoomFault) : Type 0 where
@@ -130,3 +135,16 @@ kept-more q es es′ e r s a k m = (
 pub lot-staged : (l : Option (List Entry)) → isSome l ≡ true → l ≡ Some (staged l)
 lot-staged None h = let z : _≡_ {A = ℕ} 0 1 = cc in absurd (omega arith)
 lot-staged (Some es) h = refl
+
+-- A build that is let through.
+module _ (h : List Entry) (l : Option (List Entry)) (none : length h ≤ 0) (shut : isSome l ≡ false) where
+  pub lawful-build : (most wide : ℕ) → 1 ≤ most → most ≤ 1000 → 512 ≤ wide → wide ≤ 65536 → lawful most wide h l ≡ true
+  lawful-build most wide a b c d =
+      and-from _ _ (and-from _ _ (and-from _ _ (le-leb 1 most a) (le-leb most 1000 b)) (and-from _ _ (le-leb 512 wide c) (le-leb wide 65536 d)))
+      (and-from _ _ (eq-eqb (length h) 0 (omega arith)) (not-from-false (isSome l) shut))
+
+  nothing : both h l ≡ []
+  nothing = ap (λ v. v ++ staged l) (nil-from-length h (omega arith)) ∙ no-lot l shut
+
+  pub counts-none : (m : ℕ) → (entriesOf m (both h l) ≡ 0) × (octetsOf m (both h l) ≡ 0)
+  counts-none m = (ap (entriesOf m) nothing, ap (octetsOf m) nothing)

@@ -1,6 +1,6 @@
 -- The rules of a quota layer.
 use Prim.Native.Nat.{ℕ, _+_, _≤_, min}
-use lib.Dec.{leb}
+use lib.Dec.{eqb, leb}
 use lib.ListN.{length}
 use mathlib.Core.Bool.{Bool, true, false, cond, not, _&&_}
 use mathlib.Core.List.{List, [], _∷_}
@@ -13,13 +13,13 @@ use Rattle.spool.specs.declared.refusal.RoomFault.{RoomFault}
 use Rattle.quota.specs.Shares.{entriesOf, octetsOf}
 use Rattle.quota.specs.declared.limits.Limits.{Limits}
 
--- A number in a range, its ends among it.
-abbrev pub between : ℕ → ℕ → ℕ → Bool
-between low high n = leb low n && leb n high
+-- A number from the low end to the high end, both among it.
+abbrev pub inRange : ℕ → ℕ → ℕ → Bool
+inRange low high n = leb low n && leb n high
 
 -- A layer may be built with limits in their ranges, over a spool that holds nothing and has no lot open.
 abbrev pub lawful : ℕ → ℕ → List Entry → Option (List Entry) → Bool
-lawful most wide h l = (between 1 1000 most && between 512 65536 wide) && (leb (length h) 0 && not (isSome l))
+lawful most wide h l = (inRange 1 1000 most && inRange 512 65536 wide) && (eqb (length h) 0 && not (isSome l))
 
 -- A fault from below: one layer further off, nine at most.
 abbrev pub lifted : RoomFault → RoomFault
