@@ -18,12 +18,13 @@ use Rattle.std.proofs.shelf.Sums.{sumBy-append}
 use Rattle.std.proofs.shelf.Tests.{and-from, cases-bool, cases-eq, cond-false, cond-true, eq-eqb, le-leb, leb-true, lt-leb, lt-ltb, ne-eqb, not-from-false}
 use Rattle.spool.specs.Entries.{Entry}
 use Rattle.spool.specs.Refusals.{Notice}
-use Rattle.spool.specs.Rules.{asksRoom, staged, unlessFault}
+use Rattle.spool.specs.Rules.{asksRoom, extended, staged, stages, unlessFault}
 use Rattle.spool.specs.declared.refusal.RoomFault.{RoomFault}
+use Rattle.spool.proofs.Told.{extended-done}
 use Rattle.quota.specs.Quotas.{Kept, allows, lawful, lifted, own, raised}
 use Rattle.quota.specs.Shares.{both, entriesOf, octetsOf, share}
 use Rattle.quota.specs.declared.limits.Limits.{Limits}
-use Rattle.quota.proofs.Counts.{Fewer}
+use Rattle.quota.proofs.Counts.{Fewer, sum-grown}
 
 some-none : {X C : Type 0} (x : X) → _≡_ {A = Option X} (Some x) None → C
 some-none x h = let z : _≡_ {A = ℕ} 0 1 = cc in absurd (omega arith)
@@ -41,7 +42,7 @@ above-is : (f : Option RoomFault) → above (unlessFault f) ≡ unlessFault (map
 above-is None = refl
 above-is (Some f) = refl
 
-no-lot : (l : Option (List Entry)) → isSome l ≡ false → staged l ≡ []
+no-lot : (l : Option (List Entry)) → false ≡ isSome l → staged l ≡ []
 no-lot None h = refl
 no-lot (Some es) h = let z : _≡_ {A = ℕ} 0 1 = cc in absurd (omega arith)
 
@@ -71,7 +72,7 @@ module _ (q : Limits) (es : List Entry) (m n : ℕ) (r : Option RoomFault) where
   lifted-none None h = refl
   lifted-none (Some f) h = some-none _ h
 
-  pub none-room : allows q es m n r ≡ None → Room q es m n r
+  none-room : allows q es m n r ≡ None → Room q es m n r
   none-room h =
       elim (cases-bool (leb (entriesOf m es + 1) (q .entries))) [
         | inl t ↦
@@ -90,7 +91,7 @@ module _ (m : ℕ) (f : Option RoomFault) (inside : m < 64) where
   asks-is : asksRoom m f ≡ unlessFault f
   asks-is = cond-true (ltb m 64) (unlessFault f) _ (lt-ltb m 64 inside)
 
-  pub asks-none : Ok tt ≡ asksRoom m f → f ≡ None
+  asks-none : Ok tt ≡ asksRoom m f → f ≡ None
   asks-none h = unless-none f (h ∙ asks-is)
 
 module _ (q : Limits) (h : List Entry) (l : Option (List Entry)) (m n : ℕ) (r : Option RoomFault) (inside : m < 64) where
@@ -106,10 +107,17 @@ module _ (q : Limits) (h : List Entry) (l : Option (List Entry)) (m n : ℕ) (r 
   pub asks-long : entriesOf m h + entriesOf m (staged l) < q .entries → q .octets < octetsOf m h + octetsOf m (staged l) + n → unlessFault (own 6) ≡ asksRoom m (allows q (both h l) m n r)
   asks-long a b = asks-as (own 6) (many-octets q (both h l) m n r (omega (arith, parts)) (omega (arith, parts)))
 
-  pub asks-below : entriesOf m h + entriesOf m (staged l) < q .entries → octetsOf m h + octetsOf m (staged l) + n ≤ q .octets →
+  asks-below : entriesOf m h + entriesOf m (staged l) < q .entries → octetsOf m h + octetsOf m (staged l) + n ≤ q .octets →
       (answer : Result (Unit {0}) Notice) → answer ≡ asksRoom m r → above answer ≡ asksRoom m (allows q (both h l) m n r)
   asks-below a b answer e =
       ap above (e ∙ asks-is m r inside) ∙ above-is r ∙ asks-as (mapped lifted r) (few-octets q (both h l) m n r (omega (arith, parts)) (omega (arith, parts)))
+
+  pub asks-room : entriesOf m h + entriesOf m (staged l) < q .entries → octetsOf m h + octetsOf m (staged l) + n ≤ q .octets → Ok tt ≡ asksRoom m r → Ok tt ≡ asksRoom m (allows q (both h l) m n r)
+  asks-room a b e = asks-below a b (Ok tt) e
+
+  pub asks-refused : entriesOf m h + entriesOf m (staged l) < q .entries → octetsOf m h + octetsOf m (staged l) + n ≤ q .octets →
+      (low high : Notice) → Err low ≡ asksRoom m r → high ≡ raised low → Err high ≡ asksRoom m (allows q (both h l) m n r)
+  asks-refused a b low high e k = ap (λ v. Err v) k ∙ asks-below a b (Err low) e
 
 -- What an entry counts for its own mailbox.
 pub share-self : (w : Entry → ℕ) (e : Entry) → share w (e .mailbox) e ≡ w e
@@ -126,22 +134,41 @@ one-more w most m es e a b =
       | inr n ↦ omega (arith, cond-false (eqb (e .mailbox) m) (w e) 0 (ne-eqb _ _ n))
     ]
 
-pub kept-more : (q : Limits) (es es′ : List Entry) (e : Entry) (r : Option RoomFault) → ((f : Entry → ℕ) → sumBy f es′ ≡ sumBy f es + f e) → Room q es (e .mailbox) (length (e .payload)) r → Kept q es → Kept q es′
+kept-more : (q : Limits) (es es′ : List Entry) (e : Entry) (r : Option RoomFault) → ((f : Entry → ℕ) → sumBy f es′ ≡ sumBy f es + f e) → Room q es (e .mailbox) (length (e .payload)) r → Kept q es → Kept q es′
 kept-more q es es′ e r s a k m = (
   omega (arith, s (share (λ e. 1) m), one-more (λ e. 1) (q .entries) m es e (a .entries) (k m .0)),
   omega (arith, s (share (λ e. length (e .payload)) m), one-more (λ e. length (e .payload)) (q .octets) m es e (a .octets) (k m .1)),
 )
 
-pub lot-staged : (l : Option (List Entry)) → isSome l ≡ true → l ≡ Some (staged l)
+lot-staged : (l : Option (List Entry)) → true ≡ isSome l → l ≡ Some (staged l)
 lot-staged None h = let z : _≡_ {A = ℕ} 0 1 = cc in absurd (omega arith)
 lot-staged (Some es) h = refl
 
+-- An entry that the limits let through is staged below: there is room there too.
+module _ (q : Limits) (h h′ : List Entry) (l l′ : Option (List Entry)) (e : Entry) (r : Option RoomFault) (inside : e .mailbox < 64) (lot : true ≡ isSome l)
+    (free : Ok tt ≡ asksRoom (e .mailbox) (allows q (both h l) (e .mailbox) (length (e .payload)) r)) where
+  let-in : Room q (both h l) (e .mailbox) (length (e .payload)) r
+  let-in = none-room q (both h l) (e .mailbox) (length (e .payload)) r (asks-none (e .mailbox) _ inside free)
+
+  same : r ≡ allows q (both h l) (e .mailbox) (length (e .payload)) r
+  same = let-in .below ∙ sym (asks-none (e .mailbox) _ inside free)
+
+  pub staged-answer : (answer : Result (Unit {0}) Notice) → answer ≡ stages (e .mailbox) l r → answer ≡ stages (e .mailbox) l (allows q (both h l) (e .mailbox) (length (e .payload)) r)
+  staged-answer answer a = a ∙ ap (stages (e .mailbox) l) same
+
+  pub staged-lot : l′ ≡ extended l r e → l′ ≡ extended l (allows q (both h l) (e .mailbox) (length (e .payload)) r) e
+  staged-lot a = a ∙ ap (λ v. extended l v e) same
+
+  pub staged-kept : h′ ≡ h → l′ ≡ extended l r e → Kept q (both h l) → Kept q (both h′ l′)
+  staged-kept a b k =
+      kept-more q (both h l) (both h′ l′) e r (sum-grown h h′ l l′ e a (b ∙ sym (extended-done e l r (staged l) inside (lot-staged l lot) (let-in .below)))) let-in k
+
 -- A build that is let through.
-module _ (h : List Entry) (l : Option (List Entry)) (none : length h ≤ 0) (shut : isSome l ≡ false) where
+module _ (h : List Entry) (l : Option (List Entry)) (none : length h ≤ 0) (shut : false ≡ isSome l) where
   pub lawful-build : (most wide : ℕ) → 1 ≤ most → most ≤ 1000 → 512 ≤ wide → wide ≤ 65536 → lawful most wide h l ≡ true
   lawful-build most wide a b c d =
       and-from _ _ (and-from _ _ (and-from _ _ (le-leb 1 most a) (le-leb most 1000 b)) (and-from _ _ (le-leb 512 wide c) (le-leb wide 65536 d)))
-      (and-from _ _ (eq-eqb (length h) 0 (omega arith)) (not-from-false (isSome l) shut))
+      (and-from _ _ (eq-eqb (length h) 0 (omega arith)) (not-from-false (isSome l) (sym shut)))
 
   nothing : both h l ≡ []
   nothing = ap (λ v. v ++ staged l) (nil-from-length h (omega arith)) ∙ no-lot l shut

@@ -7,7 +7,7 @@ ghost use mathlib.Core.Path.{_≡_};
 use crate::limits::Limits;
 use crate::tally::Part;
 use crate::tally::Spare;
-use crate::tally::less_part;
+use crate::tally::after_part;
 use spool::entry::Summary;
 use spool::interface::Spool;
 use spool::refusal::Refusal;
@@ -93,8 +93,8 @@ pub impl<S: Spool> Spool for Quota<S> as QuotaSpool {
             entries: self.limits.entries,
             end: self.limits.octets + 1,
         };
-        let spare = less_part(spare, &self.below, Part::Held, mailbox);
-        let spare = less_part(spare, &self.below, Part::Staged, mailbox);
+        let spare = after_part(spare, &self.below, Part::Held, mailbox);
+        let spare = after_part(spare, &self.below, Part::Staged, mailbox);
         if spare.entries == 0 {
             return Err(Refusal::NoRoom(RoomFault { layer: 0, cause: 5 }));
         }

@@ -1,4 +1,4 @@
 // A quota for each mailbox, as a spool over any spool.
 pub mod layer;
-pub mod limits;
+mod limits;
 mod tally;

@@ -25,7 +25,7 @@ pub(crate) struct Spare {
 }
 
 // How many entries a part has.
-fn count<S: Spool>(below: &S, part: Part) -> usize
+fn part_count<S: Spool>(below: &S, part: Part) -> usize
     ensures { λ r. ⌜ r ≡ length (partOf part (S·Spool .held (now (below .entry))) (S·Spool .lot (now (below .entry)))) ⌝ }
 {
     match part {
@@ -35,7 +35,7 @@ fn count<S: Spool>(below: &S, part: Part) -> usize
 }
 
 // The mailbox and the length of an entry of a part.
-fn entry<S: Spool>(below: &S, part: Part, at: usize) -> Result<Summary, Refusal>
+fn part_entry<S: Spool>(below: &S, part: Part, at: usize) -> Result<Summary, Refusal>
     ensures { λ r. ⌜ told r ≡ tells (partOf part (S·Spool .held (now (below .entry))) (S·Spool .lot (now (below .entry)))) at ⌝ }
 {
     match part {
@@ -44,8 +44,8 @@ fn entry<S: Spool>(below: &S, part: Part, at: usize) -> Result<Summary, Refusal>
     }
 }
 
-// What is left once an entry counts.
-fn less(spare: Spare, summary: Summary, mailbox: usize) -> Spare
+// What is left after an entry.
+fn after_entry(spare: Spare, summary: Summary, mailbox: usize) -> Spare
     ensures entries { λ r. ⌜ r .entries ≡ spare .entries - cond (eqb (summary .mailbox) mailbox) 1 0 ⌝ }
     ensures end { λ r. ⌜ r .end ≡ spare .end - cond (eqb (summary .mailbox) mailbox) (summary .length) 0 ⌝ }
 {
@@ -58,14 +58,14 @@ fn less(spare: Spare, summary: Summary, mailbox: usize) -> Spare
     }
 }
 
-// What is left once every entry of a part counts.
-pub(crate) fn less_part<S: Spool>(mut spare: Spare, below: &S, part: Part, mailbox: usize) -> Spare
+// What is left after every entry of a part.
+pub(crate) fn after_part<S: Spool>(mut spare: Spare, below: &S, part: Part, mailbox: usize) -> Spare
     ensures entries { λ r. ⌜ r .entries ≡ spare .entries - entriesOf mailbox (partOf part (S·Spool .held (now (below .entry))) (S·Spool .lot (now (below .entry)))) ⌝ }
     ensures end { λ r. ⌜ r .end ≡ spare .end - octetsOf mailbox (partOf part (S·Spool .held (now (below .entry))) (S·Spool .lot (now (below .entry)))) ⌝ }
 {
-    for i in 0..count(below, part) {
-        match entry(below, part, i) {
-            Ok(summary) => spare = less(spare, summary, mailbox),
+    for i in 0..part_count(below, part) {
+        match part_entry(below, part, i) {
+            Ok(summary) => spare = after_entry(spare, summary, mailbox),
             Err(_) => unreachable(),
         }
     }

@@ -1,8 +1,6 @@
 use native.Mathlib.Omega.{arith}
-use mathlib.Core.Path.{ap, _∙_}
-use Rattle.std.specs.declared.result.Result.the-variants.{Ok, Err}
 use Rattle.spool.specs.Refusals.{notice}
-use Rattle.quota.proofs.Allowed.{asks-below, asks-long, asks-many}
+use Rattle.quota.proofs.Allowed.{asks-long, asks-many, asks-refused, asks-room}
 use Rattle.quota.proofs.layer.QuotaSpool.room.Needs as need
 
 pub returns-then-spare-eq0 : need.returns-then-spare-eq0
@@ -23,13 +21,12 @@ pub returns-in-Ok : need.returns-in-Ok
 returns-in-Ok g c =
     let q = c .args .self .now in
     let r = g .S·Spool .room (q .below) (c .args .mailbox) (c .args .size) in
-    asks-below (q .limits) (g .S·Spool .held (q .below)) (g .S·Spool .lot (q .below)) (c .args .mailbox) (c .args .size) r (c .if-mailbox-ge64 .left)
-    (omega arith) (omega arith) (Ok tt) (c .in-Ok .ensures tt)
+    asks-room (q .limits) (g .S·Spool .held (q .below)) (g .S·Spool .lot (q .below)) (c .args .mailbox) (c .args .size) r (c .if-mailbox-ge64 .left)
+    (omega arith) (omega arith) (c .in-Ok .ensures tt)
 
 pub returns-in-Err : need.returns-in-Err
 returns-in-Err g c =
     let q = c .args .self .now in
     let r = g .S·Spool .room (q .below) (c .args .mailbox) (c .args .size) in
-    ap (λ v. Err v) (c .lift .ensures)
-    ∙ asks-below (q .limits) (g .S·Spool .held (q .below)) (g .S·Spool .lot (q .below)) (c .args .mailbox) (c .args .size) r (c .if-mailbox-ge64 .left)
-    (omega arith) (omega arith) (Err (notice (c .in-Err .refusal))) (c .in-Err .ensures tt)
+    asks-refused (q .limits) (g .S·Spool .held (q .below)) (g .S·Spool .lot (q .below)) (c .args .mailbox) (c .args .size) r (c .if-mailbox-ge64 .left)
+    (omega arith) (omega arith) (notice (c .in-Err .refusal)) (notice (c .lift .result)) (c .in-Err .ensures tt) (c .lift .ensures)

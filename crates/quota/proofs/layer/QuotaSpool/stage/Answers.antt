@@ -1,37 +1,30 @@
-use mathlib.Core.Path.{ap, sym, _∙_}
+use mathlib.Core.Path.{ap}
 use Prim.Native.Nat.{min}
 use lib.ListN.{length}
 use Rattle.spool.specs.Entries.{Entry}
-use Rattle.spool.specs.Rules.{extended, staged, stages}
-use Rattle.spool.proofs.Told.{extended-done}
-use Rattle.quota.specs.Quotas.{allows}
-use Rattle.quota.specs.Shares.{both}
-use Rattle.quota.proofs.Allowed.{asks-none, kept-more, lot-staged, none-room}
-use Rattle.quota.proofs.Counts.{sum-grown}
+use Rattle.spool.specs.Refusals.{told}
+use Rattle.quota.proofs.Allowed.{staged-answer, staged-kept, staged-lot}
 use Rattle.quota.proofs.layer.QuotaSpool.stage.Needs as need
 
 pub returns : need.returns
 returns g c =
     let q = c .args .self .now in
-    let m = c .args .mailbox in
-    let e : Entry = record { mailbox = m; payload = c .args .payload .now } in
     let b′ = c .stage .last .self in
+    let s = c .stage .ensures in
     let h = g .S·Spool .held (q .below) in
     let l = g .S·Spool .lot (q .below) in
     let h′ = g .S·Spool .held b′ in
     let l′ = g .S·Spool .lot b′ in
-    let r = g .S·Spool .room (q .below) m (length (e .payload)) in
-    let s = c .stage .ensures in
+    let e : Entry = record { mailbox = c .args .mailbox; payload = c .args .payload .now } in
+    let r = g .S·Spool .room (q .below) (e .mailbox) (length (e .payload)) in
     let inside = c .if-mailbox-ge64 .left in
-    let free = asks-none m (allows (q .limits) (both h l) m (length (e .payload)) r) inside (c .in-Continue-room .ensures tt) in
-    let room = none-room (q .limits) (both h l) m (length (e .payload)) r free in
-    let open-lot = lot-staged l (sym (c .lot-is-open .ensures) ∙ c .if-not-lot-is-open .left) in
-    let grown = sum-grown h h′ l l′ e (s .held) (s .lot ∙ sym (extended-done e l r (staged l) inside open-lot (room .below))) in
+    let lot = c .if-not-lot-is-open .ensures tt in
+    let free = c .in-Continue-room .ensures tt in
     record {
       refused = λ k. ap (λ v. record { below = v; limits = q .limits }) (s .refused k);
-      answer = s .answer ∙ ap (stages m l) (room .below ∙ sym free);
+      answer = staged-answer (q .limits) h h′ l l′ e r inside lot free (told (c .stage .result)) (s .answer);
       held = s .held;
-      lot = s .lot ∙ ap (λ v. extended l v e) (room .below ∙ sym free);
+      lot = staged-lot (q .limits) h h′ l l′ e r inside lot free (s .lot);
       floor = ap (min (q .limits .octets)) (s .floor);
-      within = λ k. (s .within (k .0), kept-more (q .limits) (both h l) (both h′ l′) e r grown room (k .1));
+      within = λ k. (s .within (k .0), staged-kept (q .limits) h h′ l l′ e r inside lot free (s .held) (s .lot) (k .1));
     }

@@ -2,7 +2,7 @@ use Prim.Native.Nat.{_-_}
 use mathlib.Core.Path.{_≡_}
 use lib.ListN.{take}
 use Rattle.quota.specs.Shares.{entriesOf, octetsOf, partOf}
-use Rattle.quota.proofs.tally.less_part.Given as given
+use Rattle.quota.proofs.tally.after_part.Given as given
 
 abbrev pub Inv-loop-i : given.InvT-loop-i
 Inv-loop-i g l =

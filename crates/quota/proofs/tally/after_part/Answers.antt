@@ -6,7 +6,7 @@ use Rattle.spool.proofs.Told.{past-end}
 use Rattle.spool.specs.declared.entry.Summary.{Summary}
 use Rattle.quota.specs.Shares.{entriesOf, octetsOf, partOf}
 use Rattle.quota.proofs.Counts.{sum-told}
-use Rattle.quota.proofs.tally.less_part.Needs as need
+use Rattle.quota.proofs.tally.after_part.Needs as need
 
 pub unreachable-requires : need.unreachable-requires
 unreachable-requires g c κs =
