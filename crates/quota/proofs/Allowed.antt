@@ -7,6 +7,7 @@ use Prim.Native.Nat.{ℕ, _+_, _≤_, _<_}
 use native.Mathlib.Omega.{arith}
 use lib.Dec.{eqb, leb, ltb}
 use lib.ListN.{length}
+use Rattle.std.specs.Finite.{nth}
 use Rattle.std.specs.Options.{isSome, mapped}
 use Rattle.std.specs.declared.option.Option.{Option}
 use Rattle.std.specs.declared.option.Option.the-variants.{Some, None}
@@ -18,13 +19,13 @@ use Rattle.std.proofs.shelf.Sums.{sumBy-append}
 use Rattle.std.proofs.shelf.Tests.{and-from, cases-bool, cases-eq, cond-false, cond-true, eq-eqb, le-leb, leb-true, lt-leb, lt-ltb, ne-eqb, not-from-false}
 use Rattle.spool.specs.Entries.{Entry}
 use Rattle.spool.specs.Refusals.{Notice}
-use Rattle.spool.specs.Rules.{asksRoom, extended, staged, stages, unlessFault}
+use Rattle.spool.specs.Rules.{asksRoom, extended, opened, remains, staged, stages, unlessFault}
 use Rattle.spool.specs.declared.refusal.RoomFault.{RoomFault}
 use Rattle.spool.proofs.Told.{extended-done}
 use Rattle.quota.specs.Quotas.{Kept, allows, lawful, lifted, own, raised}
 use Rattle.quota.specs.Shares.{both, entriesOf, octetsOf, share}
 use Rattle.quota.specs.declared.limits.Limits.{Limits}
-use Rattle.quota.proofs.Counts.{Fewer, sum-grown}
+use Rattle.quota.proofs.Counts.{staged-opened, sum-grown, sum-left, sum-remains, sums}
 
 some-none : {X C : Type 0} (x : X) → _≡_ {A = Option X} (Some x) None → C
 some-none x h = let z : _≡_ {A = ℕ} 0 1 = cc in absurd (omega arith)
@@ -47,26 +48,23 @@ no-lot None h = refl
 no-lot (Some es) h = let z : _≡_ {A = ℕ} 0 1 = cc in absurd (omega arith)
 
 -- There is room: neither limit is reached, and there is room below.
-pub record Room (q : Limits) (es : List Entry) (m n : ℕ) (r : Option RoomFault) : Type 0 where
+record Room (q : Limits) (es : List Entry) (m n : ℕ) (r : Option RoomFault) : Type 0 where
   pub entries : entriesOf m es + 1 ≤ q .entries
   pub octets : octetsOf m es + n ≤ q .octets
   pub below : r ≡ None
 
 module _ (q : Limits) (es : List Entry) (m n : ℕ) (r : Option RoomFault) where
-  pub many-entries : q .entries < entriesOf m es + 1 → allows q es m n r ≡ own 5
+  many-entries : q .entries < entriesOf m es + 1 → allows q es m n r ≡ own 5
   many-entries h = cond-false (leb (entriesOf m es + 1) (q .entries)) _ _ (lt-leb _ _ h)
 
   few-entries : entriesOf m es + 1 ≤ q .entries → allows q es m n r ≡ cond (leb (octetsOf m es + n) (q .octets)) (mapped lifted r) (own 6)
   few-entries h = cond-true (leb (entriesOf m es + 1) (q .entries)) _ _ (le-leb _ _ h)
 
-  pub many-octets : entriesOf m es + 1 ≤ q .entries → q .octets < octetsOf m es + n → allows q es m n r ≡ own 6
+  many-octets : entriesOf m es + 1 ≤ q .entries → q .octets < octetsOf m es + n → allows q es m n r ≡ own 6
   many-octets h k = few-entries h ∙ cond-false (leb (octetsOf m es + n) (q .octets)) _ _ (lt-leb _ _ k)
 
-  pub few-octets : entriesOf m es + 1 ≤ q .entries → octetsOf m es + n ≤ q .octets → allows q es m n r ≡ mapped lifted r
+  few-octets : entriesOf m es + 1 ≤ q .entries → octetsOf m es + n ≤ q .octets → allows q es m n r ≡ mapped lifted r
   few-octets h k = few-entries h ∙ cond-true (leb (octetsOf m es + n) (q .octets)) _ _ (le-leb _ _ k)
-
-  pub room-none : Room q es m n r → allows q es m n r ≡ None
-  room-none k = few-octets (k .entries) (k .octets) ∙ ap (mapped lifted) (k .below)
 
   lifted-none : (f : Option RoomFault) → mapped lifted f ≡ None → f ≡ None
   lifted-none None h = refl
@@ -120,13 +118,39 @@ module _ (q : Limits) (h : List Entry) (l : Option (List Entry)) (m n : ℕ) (r 
   asks-refused a b low high e k = ap (λ v. Err v) k ∙ asks-below a b (Err low) e
 
 -- What an entry counts for its own mailbox.
-pub share-self : (w : Entry → ℕ) (e : Entry) → share w (e .mailbox) e ≡ w e
+share-self : (w : Entry → ℕ) (e : Entry) → share w (e .mailbox) e ≡ w e
 share-self w e = cond-true (eqb (e .mailbox) (e .mailbox)) (w e) 0 (eq-eqb (e .mailbox) (e .mailbox) refl)
 
--- Fewer entries keep within limits, and so does an entry more that there is room for.
-pub kept-fewer : (q : Limits) (es es′ : List Entry) → Fewer es es′ → Kept q es → Kept q es′
+-- The calls that add no entry keep within the limits.
+kept-fewer : (q : Limits) (es es′ : List Entry) → ((f : Entry → ℕ) → sumBy f es′ ≤ sumBy f es) → Kept q es → Kept q es′
 kept-fewer q es es′ s k m = (omega (arith, s (share (λ e. 1) m), k m .0), omega (arith, s (share (λ e. length (e .payload)) m), k m .1))
 
+module _ (q : Limits) (h h′ : List Entry) (l l′ : Option (List Entry)) where
+  pub kept-opened : h′ ≡ h → l′ ≡ opened l → Kept q (both h l) → Kept q (both h′ l′)
+  kept-opened a b =
+      kept-fewer q (both h l) (both h′ l′) (λ f. omega (arith, sums h h′ l l′ f, ap (sumBy f) a, ap (λ v. sumBy f (staged v)) b, ap (sumBy f) (staged-opened l)))
+
+  pub kept-committed : h′ ≡ h ++ staged l → l′ ≡ None → Kept q (both h l) → Kept q (both h′ l′)
+  kept-committed a b = kept-fewer q (both h l) (both h′ l′) (λ f. omega (arith, sums h h′ l l′ f, ap (sumBy f) a, ap (λ v. sumBy f (staged v)) b))
+
+  pub kept-withdrawn : h′ ≡ h → l′ ≡ None → Kept q (both h l) → Kept q (both h′ l′)
+  kept-withdrawn a b = kept-fewer q (both h l) (both h′ l′) (λ f. omega (arith, sums h h′ l l′ f, ap (sumBy f) a, ap (λ v. sumBy f (staged v)) b))
+
+  pub kept-removed : (at : ℕ) → h′ ≡ remains l h at → l′ ≡ l → Kept q (both h l) → Kept q (both h′ l′)
+  kept-removed at a b = kept-fewer q (both h l) (both h′ l′) (λ f. omega (arith, sums h h′ l l′ f, ap (sumBy f) a, sum-remains f l h at, ap (λ v. sumBy f (staged v)) b))
+
+  -- After a removal there is room for what was taken out.
+  pub room-again : (at : ℕ) (e : Entry) (r : Option RoomFault) → h′ ≡ remains l h at → l′ ≡ l → l ≡ None → nth h at ≡ Some e → Kept q (both h l) → r ≡ None →
+      allows q (both h′ l′) (e .mailbox) (length (e .payload)) r ≡ None
+  room-again at e r a b o i k n =
+      let left = sum-left h h′ l l′ at e a b o i in
+      let most = k (e .mailbox) in
+      few-octets q (both h′ l′) (e .mailbox) (length (e .payload)) r
+      (omega (arith, left (share (λ e. 1) (e .mailbox)), share-self (λ e. 1) e))
+      (omega (arith, left (share (λ e. length (e .payload)) (e .mailbox)), share-self (λ e. length (e .payload)) e))
+      ∙ ap (mapped lifted) n
+
+-- So does an entry more that there is room for.
 one-more : (w : Entry → ℕ) (most m : ℕ) (es : List Entry) (e : Entry) → sumBy (share w (e .mailbox)) es + w e ≤ most → sumBy (share w m) es ≤ most → sumBy (share w m) es + share w m e ≤ most
 one-more w most m es e a b =
     elim (cases-eq (e .mailbox) m) [

@@ -1,8 +1,8 @@
 -- What entries come to, as a spool's calls alter them.
 use mathlib.Core.Path.{_≡_, refl, sym, ap, _∙_}
-use mathlib.Core.Bool.{true, cond}
+use mathlib.Core.Bool.{cond}
 use mathlib.Core.List.{List, [], _∷_, _++_}
-use Prim.Native.Nat.{ℕ, zero, suc, _+_, _≤_, _<_}
+use Prim.Native.Nat.{ℕ, zero, suc, _+_, _≤_}
 use native.Mathlib.Omega.{arith}
 use lib.Dec.{eqb, ltb}
 use lib.ListN.{length, take, getD}
@@ -41,7 +41,7 @@ sum-removed f [] at e h = let z : _≡_ {A = ℕ} 0 1 = cc in absurd (omega arit
 sum-removed f (x ∷ es) zero e h = let z : x ≡ e = cc in omega (arith, sumBy-cons f x es, ap f z)
 sum-removed f (x ∷ es) (suc at) e h = omega (arith, sumBy-cons f x es, sumBy-cons f x (removed es at), sum-removed f es at e h)
 
-sum-remains : (f : Entry → ℕ) (l : Option (List Entry)) (h : List Entry) (at : ℕ) → sumBy f (remains l h at) ≤ sumBy f h
+pub sum-remains : (f : Entry → ℕ) (l : Option (List Entry)) (h : List Entry) (at : ℕ) → sumBy f (remains l h at) ≤ sumBy f h
 sum-remains f None h at =
     let d : Entry = record { mailbox = 0; payload = [] } in
     cond-both (ltb at (length h)) (removed h at) h (λ v. sumBy f v ≤ sumBy f h)
@@ -49,31 +49,16 @@ sum-remains f None h at =
     (λ t. omega arith)
 sum-remains f (Some es) h at = omega arith
 
-staged-opened : (l : Option (List Entry)) → staged (opened l) ≡ staged l
+pub staged-opened : (l : Option (List Entry)) → staged (opened l) ≡ staged l
 staged-opened None = refl
 staged-opened (Some es) = refl
 
--- Entries that come to no more, by any measure.
-abbrev pub Fewer : List Entry → List Entry → Type 0
-Fewer es es′ = (f : Entry → ℕ) → sumBy f es′ ≤ sumBy f es
-
--- What the calls leave that stage nothing, and what a staged entry adds: from what is held and the lot, before and after.
+-- What is held and staged, before and after a call.
 module _ (h h′ : List Entry) (l l′ : Option (List Entry)) where
-  sums : (f : Entry → ℕ) → (sumBy f (both h l) ≡ sumBy f h + sumBy f (staged l)) × (sumBy f (both h′ l′) ≡ sumBy f h′ + sumBy f (staged l′))
+  pub sums : (f : Entry → ℕ) → (sumBy f (both h l) ≡ sumBy f h + sumBy f (staged l)) × (sumBy f (both h′ l′) ≡ sumBy f h′ + sumBy f (staged l′))
   sums f = (sumBy-append f h (staged l), sumBy-append f h′ (staged l′))
 
-  pub fewer-opened : h′ ≡ h → l′ ≡ opened l → Fewer (both h l) (both h′ l′)
-  fewer-opened a b f = omega (arith, sums f, ap (sumBy f) a, ap (λ v. sumBy f (staged v)) b, ap (sumBy f) (staged-opened l))
-
-  pub fewer-committed : h′ ≡ h ++ staged l → l′ ≡ None → Fewer (both h l) (both h′ l′)
-  fewer-committed a b f = omega (arith, sums f, ap (sumBy f) a, ap (λ v. sumBy f (staged v)) b)
-
-  pub fewer-withdrawn : h′ ≡ h → l′ ≡ None → Fewer (both h l) (both h′ l′)
-  fewer-withdrawn a b f = omega (arith, sums f, ap (sumBy f) a, ap (λ v. sumBy f (staged v)) b)
-
-  pub fewer-removed : (at : ℕ) → h′ ≡ remains l h at → l′ ≡ l → Fewer (both h l) (both h′ l′)
-  fewer-removed at a b f = omega (arith, sums f, ap (sumBy f) a, sum-remains f l h at, ap (λ v. sumBy f (staged v)) b)
-
+  -- A removal takes one entry away, and staging adds one.
   pub sum-left : (at : ℕ) (e : Entry) → h′ ≡ remains l h at → l′ ≡ l → l ≡ None → nth h at ≡ Some e → (f : Entry → ℕ) → sumBy f (both h′ l′) + f e ≡ sumBy f (both h l)
   sum-left at e a b o i f =
       let k : h′ ≡ removed h at = a ∙ sym (remains-done l h at o (told-at h at (summary e) (tells-at h at e i))) in
