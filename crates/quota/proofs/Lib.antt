@@ -1,2 +1,3 @@
-pub mod Allowed
 pub mod Counts
+pub mod Keeps
+pub mod Rooms

@@ -28,7 +28,13 @@ impl<S: Spool> Quota<S> {
         ensures values { λ r. ⌜ Cases r (λ q. (q .below ≡ below) × (q .limits .entries ≡ entries) × (q .limits .octets ≡ octets)) (λ x. (notice (x .refusal) ≡ plain 14) × (x .given ≡ below)) ⌝ }
         ensures within { λ r. ⌜ Cases r (λ q. S·Spool .within below → S·Spool .within (q .below) × Kept (q .limits) (both (S·Spool .held (q .below)) (S·Spool .lot (q .below)))) (λ _. Unit {0}) ⌝ }
     {
-        if entries < 1 || entries > 1000 || octets < 512 || octets > 65536 || below.count() > 0 || below.lot_is_open() {
+        if entries < 1
+            || entries > 1000
+            || octets < 512
+            || octets > 65536
+            || below.count() > 0
+            || below.lot_is_open()
+        {
             return Err(Rejected {
                 refusal: Refusal::Unlawful,
                 given: below,

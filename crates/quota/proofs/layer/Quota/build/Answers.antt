@@ -1,6 +1,6 @@
 use native.Mathlib.Omega.{arith}
 use mathlib.Core.Path.{refl, sym}
-use Rattle.quota.proofs.Allowed.{counts-none, lawful-build}
+use Rattle.quota.proofs.Keeps.{counts-none, lawful-build}
 use Rattle.quota.proofs.layer.Quota.build.Needs as need
 
 pub returns : need.returns

@@ -1,6 +1,6 @@
 use mathlib.Core.Path.{ap}
 use Prim.Native.Nat.{min}
-use Rattle.quota.proofs.Allowed.{kept-committed}
+use Rattle.quota.proofs.Keeps.{kept-committed}
 use Rattle.quota.proofs.layer.QuotaSpool.commit.Needs as need
 
 pub returns : need.returns

@@ -1,6 +1,6 @@
 use mathlib.Core.Path.{ap}
 use Prim.Native.Nat.{min}
-use Rattle.quota.proofs.Allowed.{kept-opened}
+use Rattle.quota.proofs.Keeps.{kept-opened}
 use Rattle.quota.proofs.layer.QuotaSpool.open_lot.Needs as need
 
 pub returns : need.returns

@@ -1,7 +1,7 @@
 use mathlib.Core.Path.{ap}
 use Prim.Native.Nat.{min}
 use lib.ListN.{length}
-use Rattle.quota.proofs.Allowed.{kept-removed, room-again}
+use Rattle.quota.proofs.Keeps.{kept-removed, room-again}
 use Rattle.quota.proofs.layer.QuotaSpool.remove.Needs as need
 
 pub returns : need.returns

@@ -1,6 +1,6 @@
 use native.Mathlib.Omega.{arith}
 use Rattle.spool.specs.Refusals.{notice}
-use Rattle.quota.proofs.Allowed.{asks-long, asks-many, asks-refused, asks-room}
+use Rattle.quota.proofs.Rooms.{asks-long, asks-many, asks-refused, asks-room}
 use Rattle.quota.proofs.layer.QuotaSpool.room.Needs as need
 
 pub returns-then-spare-eq0 : need.returns-then-spare-eq0

@@ -3,7 +3,7 @@ use Prim.Native.Nat.{min}
 use lib.ListN.{length}
 use Rattle.spool.specs.Entries.{Entry}
 use Rattle.spool.specs.Refusals.{told}
-use Rattle.quota.proofs.Allowed.{staged-answer, staged-kept, staged-lot}
+use Rattle.quota.proofs.Keeps.{staged-answer, staged-kept, staged-lot}
 use Rattle.quota.proofs.layer.QuotaSpool.stage.Needs as need
 
 pub returns : need.returns

@@ -1,6 +1,6 @@
 use mathlib.Core.Path.{ap}
 use Prim.Native.Nat.{min}
-use Rattle.quota.proofs.Allowed.{kept-withdrawn}
+use Rattle.quota.proofs.Keeps.{kept-withdrawn}
 use Rattle.quota.proofs.layer.QuotaSpool.withdraw.Needs as need
 
 pub returns : need.returns

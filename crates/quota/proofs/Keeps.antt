@@ -1,121 +1,31 @@
--- Laws of the room under limits, and of what keeps within them.
+-- Laws of what keeps within limits.
 use mathlib.Core.Path.{_≡_, refl, sym, ap, _∙_, subst}
-use mathlib.Core.Bool.{true, false, cond}
+use mathlib.Core.Bool.{true, false}
 use mathlib.Core.List.{List, [], _++_}
 use mathlib.Core.Logic.{inl, inr}
 use Prim.Native.Nat.{ℕ, _+_, _≤_, _<_}
 use native.Mathlib.Omega.{arith}
-use lib.Dec.{eqb, leb, ltb}
+use lib.Dec.{eqb}
 use lib.ListN.{length}
 use Rattle.std.specs.Finite.{nth}
 use Rattle.std.specs.Options.{isSome, mapped}
 use Rattle.std.specs.declared.option.Option.{Option}
 use Rattle.std.specs.declared.option.Option.the-variants.{Some, None}
 use Rattle.std.specs.declared.result.Result.{Result}
-use Rattle.std.specs.declared.result.Result.the-variants.{Ok, Err}
+use Rattle.std.specs.declared.result.Result.the-variants.{Ok}
 use Rattle.std.specs.shelf.Lists.{sumBy}
 use Rattle.std.proofs.shelf.Lists.{nil-from-length}
-use Rattle.std.proofs.shelf.Sums.{sumBy-append}
-use Rattle.std.proofs.shelf.Tests.{and-from, cases-bool, cases-eq, cond-false, cond-true, eq-eqb, le-leb, leb-true, lt-leb, lt-ltb, ne-eqb, not-from-false}
+use Rattle.std.proofs.shelf.Tests.{and-from, cases-eq, cond-false, cond-true, eq-eqb, le-leb, ne-eqb, not-from-false}
 use Rattle.spool.specs.Entries.{Entry}
 use Rattle.spool.specs.Refusals.{Notice}
-use Rattle.spool.specs.Rules.{asksRoom, extended, opened, remains, staged, stages, unlessFault}
+use Rattle.spool.specs.Rules.{asksRoom, extended, opened, remains, staged, stages}
 use Rattle.spool.specs.declared.refusal.RoomFault.{RoomFault}
 use Rattle.spool.proofs.Told.{extended-done}
-use Rattle.quota.specs.Quotas.{Kept, allows, lawful, lifted, own, raised}
+use Rattle.quota.specs.Quotas.{Kept, allows, lawful, lifted}
 use Rattle.quota.specs.Shares.{both, entriesOf, octetsOf, share}
 use Rattle.quota.specs.declared.limits.Limits.{Limits}
 use Rattle.quota.proofs.Counts.{staged-opened, sum-grown, sum-left, sum-remains, sums}
-
-some-none : {X C : Type 0} (x : X) → _≡_ {A = Option X} (Some x) None → C
-some-none x h = let z : _≡_ {A = ℕ} 0 1 = cc in absurd (omega arith)
-
-unless-none : (f : Option RoomFault) → Ok tt ≡ unlessFault f → f ≡ None
-unless-none None h = refl
-unless-none (Some f) h = let z : _≡_ {A = ℕ} 0 1 = cc in absurd (omega arith)
-
--- An answer from below.
-abbrev above : Result (Unit {0}) Notice → Result (Unit {0}) Notice
-above (Ok x) = Ok x
-above (Err n) = Err (raised n)
-
-above-is : (f : Option RoomFault) → above (unlessFault f) ≡ unlessFault (mapped lifted f)
-above-is None = refl
-above-is (Some f) = refl
-
-no-lot : (l : Option (List Entry)) → false ≡ isSome l → staged l ≡ []
-no-lot None h = refl
-no-lot (Some es) h = let z : _≡_ {A = ℕ} 0 1 = cc in absurd (omega arith)
-
--- There is room: neither limit is reached, and there is room below.
-record Room (q : Limits) (es : List Entry) (m n : ℕ) (r : Option RoomFault) : Type 0 where
-  pub entries : entriesOf m es + 1 ≤ q .entries
-  pub octets : octetsOf m es + n ≤ q .octets
-  pub below : r ≡ None
-
-module _ (q : Limits) (es : List Entry) (m n : ℕ) (r : Option RoomFault) where
-  many-entries : q .entries < entriesOf m es + 1 → allows q es m n r ≡ own 5
-  many-entries h = cond-false (leb (entriesOf m es + 1) (q .entries)) _ _ (lt-leb _ _ h)
-
-  few-entries : entriesOf m es + 1 ≤ q .entries → allows q es m n r ≡ cond (leb (octetsOf m es + n) (q .octets)) (mapped lifted r) (own 6)
-  few-entries h = cond-true (leb (entriesOf m es + 1) (q .entries)) _ _ (le-leb _ _ h)
-
-  many-octets : entriesOf m es + 1 ≤ q .entries → q .octets < octetsOf m es + n → allows q es m n r ≡ own 6
-  many-octets h k = few-entries h ∙ cond-false (leb (octetsOf m es + n) (q .octets)) _ _ (lt-leb _ _ k)
-
-  few-octets : entriesOf m es + 1 ≤ q .entries → octetsOf m es + n ≤ q .octets → allows q es m n r ≡ mapped lifted r
-  few-octets h k = few-entries h ∙ cond-true (leb (octetsOf m es + n) (q .octets)) _ _ (le-leb _ _ k)
-
-  lifted-none : (f : Option RoomFault) → mapped lifted f ≡ None → f ≡ None
-  lifted-none None h = refl
-  lifted-none (Some f) h = some-none _ h
-
-  none-room : allows q es m n r ≡ None → Room q es m n r
-  none-room h =
-      elim (cases-bool (leb (entriesOf m es + 1) (q .entries))) [
-        | inl t ↦
-            let k : entriesOf m es + 1 ≤ q .entries = leb-true _ _ t in
-            elim (cases-bool (leb (octetsOf m es + n) (q .octets))) [
-              | inl u ↦
-                  let o : octetsOf m es + n ≤ q .octets = leb-true _ _ u in
-                  record { entries = k; octets = o; below = lifted-none r (sym (few-octets k o) ∙ h) }
-              | inr u ↦ some-none _ (sym (cond-false (leb (octetsOf m es + n) (q .octets)) _ _ u) ∙ sym (few-entries k) ∙ h)
-            ]
-        | inr t ↦ some-none _ (sym (cond-false (leb (entriesOf m es + 1) (q .entries)) _ _ t) ∙ h)
-      ]
-
--- What a question for room answers, of a mailbox that there is.
-module _ (m : ℕ) (f : Option RoomFault) (inside : m < 64) where
-  asks-is : asksRoom m f ≡ unlessFault f
-  asks-is = cond-true (ltb m 64) (unlessFault f) _ (lt-ltb m 64 inside)
-
-  asks-none : Ok tt ≡ asksRoom m f → f ≡ None
-  asks-none h = unless-none f (h ∙ asks-is)
-
-module _ (q : Limits) (h : List Entry) (l : Option (List Entry)) (m n : ℕ) (r : Option RoomFault) (inside : m < 64) where
-  parts : (entriesOf m (both h l) ≡ entriesOf m h + entriesOf m (staged l)) × (octetsOf m (both h l) ≡ octetsOf m h + octetsOf m (staged l))
-  parts = (sumBy-append (share (λ e. 1) m) h (staged l), sumBy-append (share (λ e. length (e .payload)) m) h (staged l))
-
-  asks-as : (f : Option RoomFault) → allows q (both h l) m n r ≡ f → unlessFault f ≡ asksRoom m (allows q (both h l) m n r)
-  asks-as f e = sym (asks-is m (allows q (both h l) m n r) inside ∙ ap unlessFault e)
-
-  pub asks-many : q .entries ≤ entriesOf m h + entriesOf m (staged l) → unlessFault (own 5) ≡ asksRoom m (allows q (both h l) m n r)
-  asks-many a = asks-as (own 5) (many-entries q (both h l) m n r (omega (arith, parts)))
-
-  pub asks-long : entriesOf m h + entriesOf m (staged l) < q .entries → q .octets < octetsOf m h + octetsOf m (staged l) + n → unlessFault (own 6) ≡ asksRoom m (allows q (both h l) m n r)
-  asks-long a b = asks-as (own 6) (many-octets q (both h l) m n r (omega (arith, parts)) (omega (arith, parts)))
-
-  asks-below : entriesOf m h + entriesOf m (staged l) < q .entries → octetsOf m h + octetsOf m (staged l) + n ≤ q .octets →
-      (answer : Result (Unit {0}) Notice) → answer ≡ asksRoom m r → above answer ≡ asksRoom m (allows q (both h l) m n r)
-  asks-below a b answer e =
-      ap above (e ∙ asks-is m r inside) ∙ above-is r ∙ asks-as (mapped lifted r) (few-octets q (both h l) m n r (omega (arith, parts)) (omega (arith, parts)))
-
-  pub asks-room : entriesOf m h + entriesOf m (staged l) < q .entries → octetsOf m h + octetsOf m (staged l) + n ≤ q .octets → Ok tt ≡ asksRoom m r → Ok tt ≡ asksRoom m (allows q (both h l) m n r)
-  asks-room a b e = asks-below a b (Ok tt) e
-
-  pub asks-refused : entriesOf m h + entriesOf m (staged l) < q .entries → octetsOf m h + octetsOf m (staged l) + n ≤ q .octets →
-      (low high : Notice) → Err low ≡ asksRoom m r → high ≡ raised low → Err high ≡ asksRoom m (allows q (both h l) m n r)
-  asks-refused a b low high e k = ap (λ v. Err v) k ∙ asks-below a b (Err low) e
+use Rattle.quota.proofs.Rooms.{Room, asks-none, few-octets, none-room}
 
 -- What an entry counts for its own mailbox.
 share-self : (w : Entry → ℕ) (e : Entry) → share w (e .mailbox) e ≡ w e
@@ -186,6 +96,10 @@ module _ (q : Limits) (h h′ : List Entry) (l l′ : Option (List Entry)) (e : 
   pub staged-kept : h′ ≡ h → l′ ≡ extended l r e → Kept q (both h l) → Kept q (both h′ l′)
   staged-kept a b k =
       kept-more q (both h l) (both h′ l′) e r (sum-grown h h′ l l′ e a (b ∙ sym (extended-done e l r (staged l) inside (lot-staged l lot) (let-in .below)))) let-in k
+
+no-lot : (l : Option (List Entry)) → false ≡ isSome l → staged l ≡ []
+no-lot None h = refl
+no-lot (Some es) h = let z : _≡_ {A = ℕ} 0 1 = cc in absurd (omega arith)
 
 -- A build that is let through.
 module _ (h : List Entry) (l : Option (List Entry)) (none : length h ≤ 0) (shut : false ≡ isSome l) where
