@@ -101,10 +101,10 @@ pub impl Spool for PackedLog as PackedLogSpool {
         if at >= self.filed {
             return Err(Refusal::NoSuchEntry);
         }
-        let row = self.rows[at];
+        let held = self.rows[at];
         Ok(Summary {
-            mailbox: row.mailbox,
-            length: row.length,
+            mailbox: held.mailbox,
+            length: held.length,
         })
     }
 
