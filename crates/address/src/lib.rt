@@ -1,1 +1,2 @@
 pub mod classes;
+mod words;
