@@ -1,2 +1,3 @@
 pub mod classes;
+mod parts;
 mod words;
