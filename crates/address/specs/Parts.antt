@@ -59,7 +59,7 @@ pub record DomainAt (xs : List ℕ) (n : ℕ) : Type 0 where
   pub labels : Dotted Label (take n xs)
   pub few : n ≤ 255
 
--- n, and no other number.
-pub record Only (P : ℕ → Type 0) (n : ℕ) : Type 0 where
-  pub holds : P n
-  pub alone : (m : ℕ) → P m → m ≡ n
+-- a, and nothing else.
+pub record Only {A : Type 0} (P : A → Type 0) (a : A) : Type 0 where
+  pub holds : P a
+  pub alone : (b : A) → P b → b ≡ a

@@ -1,3 +1,4 @@
 pub mod classes;
-mod parts;
+pub mod parts;
+pub mod path;
 mod words;
