@@ -28,21 +28,21 @@ abbrev path : ℕ → ℕ → Path
 path at end = record { at = at; end = end }
 
 -- The parts of a path, as they are read.
-record Parts (xs : List ℕ) (p : Path) : Type 0 where
-  rest : List ℕ
-  opened : xs ≡ 60 ∷ rest
-  n : ℕ
-  local : LocalAt rest n
-  after : List ℕ
-  atSign : drop n rest ≡ 64 ∷ after
-  m : ℕ
-  domain : DomainAt after m
-  behind : List ℕ
-  closed : drop m after ≡ 62 ∷ behind
-  at-is : p .at ≡ 1 + n
-  end-is : p .end ≡ n + m + 3
+pub record Parts (xs : List ℕ) (p : Path) : Type 0 where
+  pub rest : List ℕ
+  pub opened : xs ≡ 60 ∷ rest
+  pub n : ℕ
+  pub local : LocalAt rest n
+  pub after : List ℕ
+  pub atSign : drop n rest ≡ 64 ∷ after
+  pub m : ℕ
+  pub domain : DomainAt after m
+  pub behind : List ℕ
+  pub closed : drop m after ≡ 62 ∷ behind
+  pub at-is : p .at ≡ 1 + n
+  pub end-is : p .end ≡ n + m + 3
 
-parts-of : (xs : List ℕ) (p : Path) → PathAt xs p → Parts xs p
+pub parts-of : (xs : List ℕ) (p : Path) → PathAt xs p → Parts xs p
 parts-of xs p h =
     let after = h .domain ++ 62 ∷ h .rest in
     record {
@@ -86,7 +86,7 @@ module _ (xs rest : List ℕ) (opened : xs ≡ 60 ∷ rest) where
   local-of : (p : Path) (h : Parts xs p) → LocalAt rest (h .n)
   local-of p h = subst (λ (v : List ℕ). LocalAt v (h .n)) (same-rest p h) (h .local)
 
-  pub no-local : ((n : ℕ) → LocalAt rest n → ⊥) → Fault xs 2
+  pub no-local : ((n : ℕ) → LocalAt rest n → ⊥) → Fault PathAt xs 2
   no-local none = record {
       why = inr (inl (refl, record { rest = rest; opened = opened; none = none }));
       none = λ p q. let h = parts-of xs p q in none (h .n) (local-of p h);
@@ -98,7 +98,7 @@ module _ (xs rest : List ℕ) (opened : xs ≡ 60 ∷ rest) where
     at-of p h =
         ap (λ v. drop n v) (sym (same-rest p h)) ∙ ap (λ k. drop k (h .rest)) (sym (local .alone (h .n) (local-of p h))) ∙ h .atSign
 
-    pub no-domain : ((ys : List ℕ) (m : ℕ) → drop n rest ≡ 64 ∷ ys → DomainAt ys m → ⊥) → Fault xs 3
+    pub no-domain : ((ys : List ℕ) (m : ℕ) → drop n rest ≡ 64 ∷ ys → DomainAt ys m → ⊥) → Fault PathAt xs 3
     no-domain none = record {
         why = inr (inr (inl (refl, record { rest = rest; opened = opened; n = n; local = local .holds; none = none })));
         none = λ p q. let h = parts-of xs p q in none (h .after) (h .m) (at-of p h) (h .domain);
@@ -109,7 +109,7 @@ module _ (xs rest : List ℕ) (opened : xs ≡ 60 ∷ rest) where
       same-after : (ys : List ℕ) → drop n rest ≡ 64 ∷ ys → ys ≡ after
       same-after ys e = ap (drop 1) (sym e ∙ atSign)
 
-      pub no-label : ((m : ℕ) → DomainAt after m → ⊥) → Fault xs 3
+      pub no-label : ((m : ℕ) → DomainAt after m → ⊥) → Fault PathAt xs 3
       no-label none = no-domain (λ ys m e d. none m (subst (λ (v : List ℕ). DomainAt v m) (same-after ys e) d))
 
       module _ (m : ℕ) (domain : DomainAt after m) where
@@ -117,7 +117,7 @@ module _ (xs rest : List ℕ) (opened : xs ≡ 60 ∷ rest) where
         domain-size p h =
             h .domain .longest ∙ ap (leading (orDot labelOctet)) (same-after (h .after) (at-of p h)) ∙ sym (domain .longest)
 
-        pub no-closing : ((ys : List ℕ) → drop m after ≡ 62 ∷ ys → ⊥) → Fault xs 4
+        pub no-closing : ((ys : List ℕ) → drop m after ≡ 62 ∷ ys → ⊥) → Fault PathAt xs 4
         no-closing none = record {
             why = inr (inr (inr (refl, record { rest = rest; opened = opened; n = n; local = local .holds; after = after; atSign = atSign; m = m; domain = domain; none = none })));
             none = λ p q.

@@ -58,7 +58,7 @@ leading-append p (x ∷ w) r h =
 pub leading-is : (p : ℕ → Bool) (w r : List ℕ) → AllIn p w → leading p r ≡ 0 → leading p (w ++ r) ≡ length w
 leading-is p w r h e = omega (arith, leading-append p w r h, e)
 
-pieces-word : (p : ℕ → Bool) → p 46 ≡ false → (w : List ℕ) → AllIn p w → pieces w ≡ w ∷ []
+pub pieces-word : (p : ℕ → Bool) → p 46 ≡ false → (w : List ℕ) → AllIn p w → pieces w ≡ w ∷ []
 pieces-word p d [] h = refl
 pieces-word p d (x ∷ w) h =
     cond-false (eqb x 46) _ _ (ne-eqb x 46 (passes-apart p x 46 (h .0) d)) ∙ ap (withFirst x) (pieces-word p d w (h .1))

@@ -64,10 +64,10 @@ Faulty xs number =
     ⊎ (((number ≡ 3) × NoDomain xs)
     ⊎ ((number ≡ 4) × Unclosed xs)))
 
--- The octets begin with no path, by the fault of this number.
-pub record Fault (xs : List ℕ) (number : ℕ) : Type 0 where
+-- The octets begin with nothing of a kind, by the fault of this number.
+pub record Fault {A : Type 0} (At : List ℕ → A → Type 0) (xs : List ℕ) (number : ℕ) : Type 0 where
   pub why : Faulty xs number
-  pub none : (p : Path) → PathAt xs p → ⊥
+  pub none : (a : A) → At xs a → ⊥
 
 -- An octet stands at a place.
 abbrev pub Stands : ℕ → List ℕ → ℕ → Type 0

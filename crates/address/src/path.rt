@@ -40,7 +40,7 @@ pub fn fault_number(fault: PathFault) -> u8
 }
 
 // Whether an octet stands at a place.
-fn stands(octet: u8, s: &[u8], at: usize) -> bool
+pub(crate) fn stands(octet: u8, s: &[u8], at: usize) -> bool
     ensures yes { λ r. ⌜ (r ≡ true → Stands octet (now (s .entry)) at) ⌝ }
     ensures no { λ r. ⌜ (r ≡ false → (ys : List ℕ) → drop at (now (s .entry)) ≡ octet ∷ ys → ⊥) ⌝ }
     ensures within { λ r. ⌜ (r ≡ true → at < length (now (s .entry))) ⌝ }
@@ -53,7 +53,7 @@ fn stands(octet: u8, s: &[u8], at: usize) -> bool
 
 // The path that octets begin with.
 pub fn read_path(s: &[u8]) -> Result<Path, PathFault>
-    ensures { λ r. ⌜ Cases r (λ p. Only (PathAt (now (s .entry))) p) (λ e. Fault (now (s .entry)) (faultNumber e)) ⌝ }
+    ensures { λ r. ⌜ Cases r (λ p. Only (PathAt (now (s .entry))) p) (λ e. Fault PathAt (now (s .entry)) (faultNumber e)) ⌝ }
 {
     if !stands(b'<', s, 0) {
         return Err(PathFault::NoOpening);
