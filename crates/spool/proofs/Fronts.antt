@@ -8,6 +8,7 @@ use native.Mathlib.Omega.{arith}
 use lib.Dec.{leb}
 use lib.ListN.{length, take, drop, getD}
 use Rattle.std.specs.Finite.{nth}
+use Rattle.std.specs.declared.option.Option.{Option}
 use Rattle.std.specs.declared.option.Option.the-variants.{Some, None}
 use Rattle.std.specs.declared.result.Result.{Result}
 use Rattle.std.specs.declared.result.Result.the-variants.{Ok, Err}
@@ -93,3 +94,21 @@ pub nth-absent : {X : Type 0} (xs : List X) (at : ℕ) → length xs ≤ at → 
 nth-absent [] at h = refl
 nth-absent (x ∷ xs) zero h = absurd (omega arith)
 nth-absent (x ∷ xs) (suc at) h = nth-absent xs at (omega arith)
+
+pub nth-none : {X : Type 0} (xs : List X) (at : ℕ) → nth xs at ≡ None → length xs ≤ at
+nth-none [] at h = omega arith
+nth-none (x ∷ xs) zero h = let z : _≡_ {A = ℕ} 0 1 = cc in absurd (omega arith)
+nth-none (x ∷ xs) (suc at) h = omega (arith, nth-none xs at h)
+
+-- What an answer says of what was asked for.
+pub present-some : {X : Type 0} (o : Option X) (x : X) → Ok x ≡ present o → o ≡ Some x
+present-some None x h = let z : _≡_ {A = ℕ} 0 1 = cc in absurd (omega arith)
+present-some (Some y) x h = ap (λ v. Some v) (let e : y ≡ x = cc in e)
+
+pub present-none : {X : Type 0} (o : Option X) (n : Notice) → Err n ≡ present o → o ≡ None
+present-none None n h = refl
+present-none (Some y) n h = let z : _≡_ {A = ℕ} 0 1 = cc in absurd (omega arith)
+
+-- How many records a list has, where its memory is long enough.
+pub count-is : {X : Type 0} (xs ys : List X) (c n : ℕ) → ys ≡ xs → c ≤ length xs → n ≡ length (take c ys) → n ≡ c
+count-is xs ys c n e l k = k ∙ ap (λ v. length (take c v)) e ∙ length-take-le c xs l

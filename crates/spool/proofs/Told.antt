@@ -2,6 +2,7 @@
 use mathlib.Core.Path.{_≡_, refl, sym, ap, _∙_}
 use mathlib.Core.Bool.{true, false, cond}
 use mathlib.Core.List.{List, [], _∷_, _++_}
+use mathlib.Core.Logic.{inl, inr}
 use Prim.Native.Nat.{ℕ, zero, suc, _+_, _≤_, _<_}
 use native.Mathlib.Omega.{arith}
 use lib.Dec.{ltb, leb}
@@ -13,7 +14,7 @@ use Rattle.std.specs.declared.option.Option.{Option}
 use Rattle.std.specs.declared.option.Option.the-variants.{Some, None}
 use Rattle.std.specs.declared.result.Result.{Result}
 use Rattle.std.specs.declared.result.Result.the-variants.{Ok, Err}
-use Rattle.std.proofs.shelf.Tests.{cond-true, cond-false, lt-ltb, le-ltb, le-leb, lt-leb}
+use Rattle.std.proofs.shelf.Tests.{cases-lt, cond-true, cond-false, lt-ltb, le-ltb, le-leb, lt-leb}
 use Rattle.spool.specs.Entries.{Entry}
 use Rattle.spool.specs.Lists.{present}
 use Rattle.spool.specs.Refusals.{Notice, plain, noRoom, notice, told}
@@ -68,6 +69,12 @@ module _ (l : Option (List Entry)) (h : List Entry) (at : ℕ) where
   pub remains-done : l ≡ None → at < length h → removed h at ≡ remains l h at
   remains-done o k = sym (ap (λ v. remains v h at) o ∙ cond-true (ltb at (length h)) _ _ (lt-ltb _ _ k))
 
+  pub removes-past : l ≡ None → length h ≤ at → Err (plain 13) ≡ removes l h at
+  removes-past o k = sym (ap (λ v. removes v h at) o ∙ cond-false (ltb at (length h)) _ _ (le-ltb _ _ k))
+
+  pub remains-past : l ≡ None → length h ≤ at → h ≡ remains l h at
+  remains-past o k = sym (ap (λ v. remains v h at) o ∙ cond-false (ltb at (length h)) _ _ (le-ltb _ _ k))
+
 -- A question is refused just past the end.
 pub past-end : (es : List Entry) (at : ℕ) (n : Notice) → Err n ≡ tells es at → length es ≤ at
 past-end [] at n h = omega arith
@@ -78,3 +85,15 @@ pub told-at : (es : List Entry) (at : ℕ) (s : Summary) → Ok s ≡ tells es a
 told-at [] at s h = let z : _≡_ {A = ℕ} 0 1 = cc in absurd (omega arith)
 told-at (x ∷ es) zero s h = omega arith
 told-at (x ∷ es) (suc at) s h = omega (arith, told-at es at s h)
+
+no-fault : (f : Option RoomFault) → Ok tt ≡ unlessFault f → f ≡ None
+no-fault None h = refl
+no-fault (Some f) h = let z : _≡_ {A = ℕ} 0 1 = cc in absurd (omega arith)
+
+-- A question for room that is not refused: the mailbox is there, and so is room.
+pub room-had : (m : ℕ) (f : Option RoomFault) → Ok tt ≡ asksRoom m f → (m < 64) × (f ≡ None)
+room-had m f h =
+    elim (cases-lt m 64) [
+      | inl l ↦ (l, no-fault f (h ∙ cond-true (ltb m 64) _ _ (lt-ltb m 64 l)))
+      | inr l ↦ let w : _≡_ {A = Result (Unit {0}) Notice} (Ok tt) (Err (plain 7)) = h ∙ cond-false (ltb m 64) _ _ (le-ltb m 64 l) in let z : _≡_ {A = ℕ} 0 1 = cc in absurd (omega arith)
+    ]
