@@ -13,7 +13,7 @@ use Rattle.std.specs.Holes.{between}
 use Rattle.std.specs.Text.{lower}
 use Rattle.std.specs.shelf.Lists.{All, leading}
 use Rattle.std.proofs.shelf.Elements.{all-weaker}
-use Rattle.std.proofs.shelf.Lists.{length-map, drop-at, take-at, take-all, drop-all, length-drop, drop-more}
+use Rattle.std.proofs.shelf.Lists.{append-assoc, length-append, length-map, drop-at, take-at, take-all, drop-all, length-drop, drop-more}
 use Rattle.std.proofs.shelf.Tests.{or-left, cases-lt}
 use Rattle.std.proofs.shelf.Ways.{tells}
 use Rattle.address.specs.Classes.{atext, letDig, oneOf}
@@ -21,7 +21,7 @@ use Rattle.address.specs.Words.{AllIn, orDot, Dotted, IsAtom, pieces}
 use Rattle.address.specs.Parts.{LocalForm, LocalAt, Only}
 use Rattle.address.specs.Paths.{PathAt}
 use Rattle.address.specs.Comparison.{IsPostmaster}
-use Rattle.address.specs.Envelopes.{NullAt, PostmasterAt, ReverseAt, ForwardAt}
+use Rattle.address.specs.Envelopes.{NullAt, PostmasterAt, ReverseAt, ForwardAt, domainPart, localPart, IsDomainOf, IsLocalOf}
 use Rattle.address.specs.declared.envelope.ReversePath.{ReversePath}
 use Rattle.address.specs.declared.envelope.ReversePath.the-variants.{Sender, Null}
 use Rattle.address.specs.declared.envelope.ForwardPath.{ForwardPath}
@@ -137,3 +137,22 @@ part-is xs from to e f h k =
             | inr m ↦ (let t : to - from ≡ 0 = omega arith in sym (ap (λ n. take n (drop from xs)) t))
           ])
     ]
+
+-- The parts of a path that a line begins with.
+pub domain-means : (line name : List ℕ) (path : ForwardPath) (xs : List ℕ) → xs ≡ domainPart line name path → IsDomainOf line name path xs
+domain-means line name (Recipient p) xs e = λ h.
+    let front : List ℕ = 60 ∷ (h .local ++ 64 ∷ []) in
+    let back : List ℕ = h .domain ++ 62 ∷ h .rest in
+    let l : length (h .local ++ 64 ∷ []) ≡ length (h .local) + 1 = length-append (h .local) (64 ∷ []) in
+    let n : length front ≡ p .at + 1 = omega (arith, l, h .atSign) in
+    let m : length (h .domain) ≡ p .end - 1 - (p .at + 1) = omega (arith, h .ends) in
+    let f : line ≡ front ++ back = h .spelt ∙ ap (λ v. 60 ∷ v) (sym (append-assoc (h .local) (64 ∷ []) back)) in
+    let d : drop (p .at + 1) line ≡ back = ap (drop (p .at + 1)) f ∙ drop-at front back (p .at + 1) n in
+    e ∙ ap (take (p .end - 1 - (p .at + 1))) d ∙ take-at (h .domain) (62 ∷ h .rest) (p .end - 1 - (p .at + 1)) m
+domain-means line name Postmaster xs e = e
+
+pub local-means : (line : List ℕ) (path : ForwardPath) (xs : List ℕ) → xs ≡ localPart line path → IsLocalOf line path xs
+local-means line (Recipient p) xs e = λ h.
+    let m : length (h .local) ≡ p .at - 1 = omega (arith, h .atSign) in
+    e ∙ ap (λ v. take (p .at - 1) (drop 1 v)) (h .spelt) ∙ take-at (h .local) (64 ∷ (h .domain ++ 62 ∷ h .rest)) (p .at - 1) m
+local-means line Postmaster xs e = λ h. e ∙ postmaster-name line h

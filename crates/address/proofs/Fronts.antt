@@ -38,7 +38,7 @@ no-atoms xs n s o e d =
     omega (arith, h .0 .some)
 
 -- A quoted local part begins with a quote mark.
-opens : (xs : List ℕ) (n : ℕ) → QuotedAt xs n → (0 < length xs) × (getD xs 0 0 ≡ 34)
+pub opens : (xs : List ℕ) (n : ℕ) → QuotedAt xs n → (0 < length xs) × (getD xs 0 0 ≡ 34)
 opens xs n q =
     let f : xs ≡ 34 ∷ ((joined spelling (q .form .inner) ++ 34 ∷ []) ++ drop n xs) =
       sym (take-append-drop n xs) ∙ ap (λ v. v ++ drop n xs) (q .form .spelt) in
@@ -80,7 +80,7 @@ pieces-pass p (x ∷ xs) h = go (pieces-pass p xs) (eqb x 46) refl h
     go f true e h = (or-right (p x) (eqb x 46) e, f (h .1))
     go f false e h = let k = with-first p x (pieces xs) h in (or-left (p x) (eqb x 46) (k .0), f (k .1))
 
-atoms-pass : (xs : List ℕ) → Dotted Atom xs → AllIn (orDot atext) xs
+pub atoms-pass : (xs : List ℕ) → Dotted Atom xs → AllIn (orDot atext) xs
 atoms-pass xs h = pieces-pass atext xs (all-weaker IsAtom (AllIn atext) (λ w a. a .octets) (pieces xs) h)
 
 labels-pass : (xs : List ℕ) → Dotted Label xs → AllIn (orDot labelOctet) xs

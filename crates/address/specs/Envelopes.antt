@@ -39,3 +39,12 @@ domainPart line name Postmaster = name
 abbrev pub localPart : List ℕ → ForwardPath → List ℕ
 localPart line (Recipient p) = between 1 (p .at) line
 localPart line Postmaster = between 1 11 line
+
+-- Where the line does begin with the path, these are its own domain and local part.
+abbrev pub IsDomainOf : List ℕ → List ℕ → ForwardPath → List ℕ → Type 0
+IsDomainOf line name (Recipient p) xs = (h : PathAt line p) → xs ≡ h .domain
+IsDomainOf line name Postmaster xs = xs ≡ name
+
+abbrev pub IsLocalOf : List ℕ → ForwardPath → List ℕ → Type 0
+IsLocalOf line (Recipient p) xs = (h : PathAt line p) → xs ≡ h .local
+IsLocalOf line Postmaster xs = (h : PostmasterAt line) → xs ≡ h .name

@@ -1,4 +1,4 @@
-ghost use Rattle.address.specs.Envelopes.{ForwardAt, NullAt, PostmasterAt, ReverseAt, domainPart, localPart};
+ghost use Rattle.address.specs.Envelopes.{ForwardAt, IsDomainOf, IsLocalOf, NullAt, PostmasterAt, ReverseAt, domainPart, localPart};
 ghost use Rattle.address.specs.Parts.{Only};
 ghost use Rattle.address.specs.Paths.{Fault, faultNumber};
 ghost use Rattle.std.specs.Holes.{between};
@@ -84,8 +84,8 @@ fn part(s: &[u8], from: usize, to: usize) -> &[u8]
     &s[from.min(end)..end]
 }
 
-// The domain of a path of RCPT that `line` begins with: what follows "@", or the receiver's own name.
-pub fn domain_of<'a>(line: &'a [u8], name: &'a [u8], path: ForwardPath) -> &'a [u8]
+// The octets of a line that are a path's domain, or the receiver's own name.
+fn domain_octets<'a>(line: &'a [u8], name: &'a [u8], path: ForwardPath) -> &'a [u8]
     ensures { λ r. ⌜ now r ≡ domainPart (now (line .entry)) (now (name .entry)) path ⌝ }
 {
     match path {
@@ -100,12 +100,28 @@ pub fn domain_of<'a>(line: &'a [u8], name: &'a [u8], path: ForwardPath) -> &'a [
     }
 }
 
-// The local part of a path of RCPT that `line` begins with.
-pub fn local_part_of(line: &[u8], path: ForwardPath) -> &[u8]
+// The octets of a line that are a path's local part.
+fn local_octets(line: &[u8], path: ForwardPath) -> &[u8]
     ensures { λ r. ⌜ now r ≡ localPart (now (line .entry)) path ⌝ }
 {
     match path {
         ForwardPath::Recipient(p) => part(line, 1, p.at),
         ForwardPath::Postmaster => part(line, 1, 11),
     }
+}
+
+// The domain of the path of RCPT that `line` begins with: what follows "@", or the receiver's own name.
+pub fn domain_of<'a>(line: &'a [u8], name: &'a [u8], path: ForwardPath) -> &'a [u8]
+    ensures value { λ r. ⌜ now r ≡ domainPart (now (line .entry)) (now (name .entry)) path ⌝ }
+    ensures meaning { λ r. ⌜ IsDomainOf (now (line .entry)) (now (name .entry)) path (now r) ⌝ }
+{
+    domain_octets(line, name, path)
+}
+
+// The local part of the path of RCPT that `line` begins with.
+pub fn local_part_of(line: &[u8], path: ForwardPath) -> &[u8]
+    ensures value { λ r. ⌜ now r ≡ localPart (now (line .entry)) path ⌝ }
+    ensures meaning { λ r. ⌜ IsLocalOf (now (line .entry)) path (now r) ⌝ }
+{
+    local_octets(line, path)
 }

@@ -11,7 +11,7 @@ use crate::classes::is_in;
 
 // What stands between the dots: atoms in a local part, labels in a domain.
 #[derive(Clone, Copy)]
-pub enum Word {
+pub(crate) enum Word {
     Atom,
     Label,
 }
@@ -69,7 +69,7 @@ fn is_word(s: &[u8], from: usize, end: usize, word: Word) -> bool
 }
 
 // How many octets the longest run of words and dots at the front has, where it is words with a dot between each and the next.
-pub fn dotted(s: &[u8], word: Word) -> Option<usize>
+pub(crate) fn dotted(s: &[u8], word: Word) -> Option<usize>
     ensures { λ r. ⌜ Cases r (Dotted word (run (orDot (wordOctet word)) (now (s .entry))) → ⊥) (λ n. (n ≡ leading (orDot (wordOctet word)) (now (s .entry))) × Dotted word (take n (now (s .entry)))) ⌝ }
 {
     let mut start = 0;
