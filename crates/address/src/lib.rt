@@ -1,0 +1,13 @@
+pub mod address_list;
+pub mod classes;
+pub mod comparison;
+pub mod directory;
+pub mod domain_list;
+pub mod envelope;
+pub mod examples;
+mod listing;
+pub mod parts;
+pub mod path;
+pub mod row;
+mod spelling;
+mod words;
