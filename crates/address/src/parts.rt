@@ -22,7 +22,11 @@ fn quotable(s: &[u8], at: usize) -> usize
     if s[at] != b'\\' || s.len() - at < 2 {
         return 0;
     }
-    if is_in(s[at + 1], Class::Printable) { 2 } else { 0 }
+    if is_in(s[at + 1], Class::Printable) {
+        2
+    } else {
+        0
+    }
 }
 
 // How many octets the quoted local part at the front has, with its quote marks.

@@ -1,9 +1,9 @@
 // The lines of the input.
 
 #[derive(Clone, Copy)]
-pub enum Line {
+pub enum Line<'a> {
     Blank,
-    Report { mailbox: usize, count: usize },
+    Report { path: &'a [u8], count: usize },
     Collect { mailbox: usize },
     Bad,
 }
@@ -16,6 +16,21 @@ pub fn cut(text: &[u8], between: u8) -> Option<(&[u8], &[u8])> {
         }
     }
     None
+}
+
+// What stands before and behind the last space.
+pub fn cut_last(text: &[u8]) -> Option<(&[u8], &[u8])> {
+    let mut found = None;
+    for (i, x) in text.iter().enumerate() {
+        if *x == b' ' {
+            found = Some(i);
+        }
+    }
+    let at = found?;
+    if at >= text.len() {
+        return None;
+    }
+    Some((&text[0..at], &text[at + 1..]))
 }
 
 // A decimal number that fits 64 bits.
@@ -33,22 +48,22 @@ pub fn number(digits: &[u8]) -> Option<usize> {
     Some(n)
 }
 
-fn parse_report(words: &[u8]) -> Option<Line> {
-    let (mailbox, count) = cut(words, b' ')?;
+fn parse_report(words: &[u8]) -> Option<Line<'_>> {
+    let (path, count) = cut_last(words)?;
     Some(Line::Report {
-        mailbox: number(mailbox)?,
+        path,
         count: number(count)?,
     })
 }
 
-fn parse_collect(words: &[u8]) -> Option<Line> {
+fn parse_collect(words: &[u8]) -> Option<Line<'static>> {
     Some(Line::Collect {
         mailbox: number(words)?,
     })
 }
 
 // What a line asks for; its end is LF or CR LF.
-pub fn parse_line(line: &[u8]) -> Line {
+pub fn parse_line(line: &[u8]) -> Line<'_> {
     let text = line.trim_ascii();
     if text.is_empty() {
         return Line::Blank;
@@ -56,10 +71,9 @@ pub fn parse_line(line: &[u8]) -> Line {
     let Some((word, rest)) = cut(text, b' ') else {
         return Line::Bad;
     };
-    let asked = match word {
-        b"report" => parse_report(rest),
-        b"collect" => parse_collect(rest),
-        _ => None,
-    };
-    asked.unwrap_or(Line::Bad)
+    match word {
+        b"report" => parse_report(rest).unwrap_or(Line::Bad),
+        b"collect" => parse_collect(rest).unwrap_or(Line::Bad),
+        _ => Line::Bad,
+    }
 }

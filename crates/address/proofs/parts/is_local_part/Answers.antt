@@ -8,9 +8,10 @@ pub returns-in-Some : need.returns-in-Some
 returns-in-Some c =
     let s = c .args .s .now in
     let n = c .in-Some .n in
-    let d = c .in-Some .ensures tt in
-    (λ e. whole-local s n (d .holds) (eqb-true n (length s) e),
-     λ h. eq-eqb n (length s) (sym (d .alone (length s) (local-whole s h))))
+    let d = c .in-Some .ensures tt in (
+      λ e. whole-local s n (d .holds) (eqb-true n (length s) e),
+      λ h. eq-eqb n (length s) (sym (d .alone (length s) (local-whole s h))),
+    )
 
 pub returns-in-None : need.returns-in-None
 returns-in-None c =
