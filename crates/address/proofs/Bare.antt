@@ -94,7 +94,7 @@ no-postmaster xs p z q =
     let d′ : Dotted Atom (take (length w) ys) = subst (Dotted Atom) (sym (take-at w (62 ∷ z .rest) (length w) refl)) d in
     let only = only-atoms ys (λ _. unquoted w (62 ∷ z .rest) a t) (length w) (sym n, d′) in
     let f : 64 ∷ h .after ≡ 62 ∷ z .rest =
-      sym (h .atSign) ∙ ap (λ k. drop k (h .rest)) (only .alone (h .n) l) ∙ ap (drop (length w)) e ∙ drop-at w (62 ∷ z .rest) (length w) refl in
+    sym (h .atSign) ∙ ap (λ k. drop k (h .rest)) (only .alone (h .n) l) ∙ ap (drop (length w)) e ∙ drop-at w (62 ∷ z .rest) (length w) refl in
     let g : _≡_ {A = ℕ} 64 62 = ap (λ v. getD v 0 0) f in
     omega arith
 

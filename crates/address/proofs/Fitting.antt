@@ -32,8 +32,8 @@ pub same-local-is : (r : Bool) (xs ys : List ℕ) → Decides r (SameLocal xs ys
 same-local-is r xs ys h =
     same-from-decides r (sameLocal xs ys) h
     (decides-or (sameBytes xs ys) (postmaster xs && postmaster ys) (sameBytes-decides xs ys)
-      (decides-and (postmaster xs) (postmaster ys)
-        (sameBytes-decides (map lower xs) (codes "postmaster")) (sameBytes-decides (map lower ys) (codes "postmaster"))))
+    (decides-and (postmaster xs) (postmaster ys)
+    (sameBytes-decides (map lower xs) (codes "postmaster")) (sameBytes-decides (map lower ys) (codes "postmaster"))))
 
 module _ (s : List ℕ) (n : ℕ) (h : n ≡ domainStart s) where
   pub cut-before : take (n - 1 - 0) s ≡ beforeAt s
@@ -47,8 +47,8 @@ module _ (s : List ℕ) (n : ℕ) (h : n ≡ domainStart s) where
       let b : n - 1 < length s = omega arith in
       let f : n - 1 + 1 ≡ n = omega arith in
       let g : s ≡ take (n - 1) s ++ 64 ∷ drop n s =
-        sym (take-append-drop (n - 1) s)
-        ∙ ap (λ v. take (n - 1) s ++ v) (drop-more s (n - 1) 0 b ∙ ap (λ x. x ∷ drop (n - 1 + 1) s) e ∙ ap (λ k. 64 ∷ drop k s) f) in
+      sym (take-append-drop (n - 1) s)
+      ∙ ap (λ v. take (n - 1) s ++ v) (drop-more s (n - 1) 0 b ∙ ap (λ x. x ∷ drop (n - 1 + 1) s) e ∙ ap (λ k. 64 ∷ drop k s) f) in
       subst (λ (k : ℕ). s ≡ take (k - 1) s ++ 64 ∷ drop k s) h g
 
 -- A mailbox that is told is a row's.

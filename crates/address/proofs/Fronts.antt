@@ -33,7 +33,7 @@ atom-34 = refl
 no-atoms : (xs : List ℕ) (n : ℕ) → 0 < length xs → getD xs 0 0 ≡ 34 → n ≡ leading (orDot atext) xs → Dotted Atom (take n xs) → ⊥
 no-atoms xs n s o e d =
     let z : leading (orDot atext) xs ≡ 0 =
-      ap (leading (orDot atext)) (drop-more xs 0 0 s ∙ ap (λ x. x ∷ drop 1 xs) o) ∙ stops-at (orDot atext) 34 (drop 1 xs) atom-34 in
+    ap (leading (orDot atext)) (drop-more xs 0 0 s ∙ ap (λ x. x ∷ drop 1 xs) o) ∙ stops-at (orDot atext) 34 (drop 1 xs) atom-34 in
     let h = subst (λ (k : ℕ). Dotted Atom (take k xs)) (e ∙ z) d in
     omega (arith, h .0 .some)
 
@@ -41,7 +41,7 @@ no-atoms xs n s o e d =
 pub opens : (xs : List ℕ) (n : ℕ) → QuotedAt xs n → (0 < length xs) × (getD xs 0 0 ≡ 34)
 opens xs n q =
     let f : xs ≡ 34 ∷ ((joined spelling (q .form .inner) ++ 34 ∷ []) ++ drop n xs) =
-      sym (take-append-drop n xs) ∙ ap (λ v. v ++ drop n xs) (q .form .spelt) in
+    sym (take-append-drop n xs) ∙ ap (λ v. v ++ drop n xs) (q .form .spelt) in
     (omega (arith, ap length f), ap (λ v. getD v 0 0) f)
 
 pub none-quoted : (xs : List ℕ) → 0 < length xs → getD xs 0 0 ≡ 34 → ((n : ℕ) → QuotedAt xs n → ⊥) → (n : ℕ) → LocalForm xs n → ⊥
@@ -92,16 +92,17 @@ local-front xs r h z = record { form = go (h .form); few = h .few }
   where
     t : take (length xs) (xs ++ r) ≡ xs
     t = take-at xs r (length xs) refl
+
     go : Quoted xs ⊎ Dotted Atom xs → LocalForm (xs ++ r) (length xs)
     go (inl q) = inl (record { within = omega (arith, length-append xs r); form = subst Quoted (sym t) q })
     go (inr d) = inr (sym (leading-is (orDot atext) xs r (atoms-pass xs d) z), subst (Dotted Atom) (sym t) d)
 
 pub domain-front : (xs r : List ℕ) → IsDomain xs → leading (orDot labelOctet) r ≡ 0 → DomainAt (xs ++ r) (length xs)
 domain-front xs r h z = record {
-    longest = sym (leading-is (orDot labelOctet) xs r (labels-pass xs (h .labels)) z);
-    labels = subst (Dotted Label) (sym (take-at xs r (length xs) refl)) (h .labels);
-    few = h .few;
-  }
+  longest = sym (leading-is (orDot labelOctet) xs r (labels-pass xs (h .labels)) z);
+  labels = subst (Dotted Label) (sym (take-at xs r (length xs) refl)) (h .labels);
+  few = h .few;
+}
 
 pub local-within : (xs : List ℕ) (n : ℕ) → LocalAt xs n → n ≤ length xs
 local-within xs n h = go (h .form)

@@ -28,12 +28,12 @@ module _ (s : List ℕ) (from end : ℕ) (some : from < end) (within : end ≤ l
 
   pub label-from : end - from ≤ 63 → AllIn labelOctet (between from end s) → letDig (getD s from 0) ≡ true → letDig (getD s (end - 1) 0) ≡ true → IsLabel (between from end s)
   label-from f a l r = record {
-      some = omega (arith, long);
-      few = omega (arith, long);
-      octets = a;
-      first = ap letDig first-is ∙ l;
-      last = ap letDig last-is ∙ r;
-    }
+    some = omega (arith, long);
+    few = omega (arith, long);
+    octets = a;
+    first = ap letDig first-is ∙ l;
+    last = ap letDig last-is ∙ r;
+  }
 
   pub label-few : IsLabel (between from end s) → end - from ≤ 63
   label-few h = omega (arith, long, h .few)

@@ -29,18 +29,18 @@ pub record Onward (ys zs : List ℕ) (k : ℕ) : Type 0 where
 
 pub onward-none : (ys : List ℕ) → Onward ys ys 0
 onward-none ys = record {
-    back = λ m b. subst (Body ys) (sym (zero-add m)) b;
-    forth = λ m b. (m, sym (zero-add m), b);
-  }
+  back = λ m b. subst (Body ys) (sym (zero-add m)) b;
+  forth = λ m b. (m, sym (zero-add m), b);
+}
 
 onward-more : (ys zs vs : List ℕ) (k l : ℕ) → Onward ys zs k → Onward zs vs l → Onward ys vs (k + l)
 onward-more ys zs vs k l a b = record {
-    back = λ m h. subst (Body ys) (sym (add-assoc k l m)) (a .back (l + m) (b .back m h));
-    forth = λ m h.
+  back = λ m h. subst (Body ys) (sym (add-assoc k l m)) (a .back (l + m) (b .back m h));
+  forth = λ m h.
       let f = a .forth m h in
       let g = b .forth (f .0) (f .2) in
       (g .0, omega (arith, f .1, g .1), g .2);
-  }
+}
 
 bare-34 : qtext 34 ≡ false
 unfolding qtext
@@ -52,15 +52,15 @@ bare-92 = refl
 
 by-bare : (x : ℕ) (zs : List ℕ) → qtext x ≡ true → Onward (x ∷ zs) zs 1
 by-bare x zs q = record {
-    back = λ m b. record {
-      inner = bare x ∷ b .inner;
-      allowed = (q, b .allowed);
-      rest = b .rest;
-      spelt = ap (λ v. x ∷ v) (b .spelt);
-      long = omega (arith, b .long);
-    };
-    forth = λ m b. go m (b .inner) (b .allowed) (b .rest) (b .spelt) (b .long);
-  }
+  back = λ m b. record {
+    inner = bare x ∷ b .inner;
+    allowed = (q, b .allowed);
+    rest = b .rest;
+    spelt = ap (λ v. x ∷ v) (b .spelt);
+    long = omega (arith, b .long);
+  };
+  forth = λ m b. go m (b .inner) (b .allowed) (b .rest) (b .spelt) (b .long);
+}
   where
     go : (m : ℕ) (ps : List Quotable) → All Allowed ps → (rest : List ℕ) → x ∷ zs ≡ joined spelling ps ++ 34 ∷ rest → m ≡ length (joined spelling ps) + 1 → (j : ℕ) × (m ≡ 1 + j) × Body zs j
     go m [] a r e l = absurd (passes-apart qtext x 34 q bare-34 (ap (λ v. getD v 0 0) e))
@@ -70,15 +70,15 @@ by-bare x zs q = record {
 
 by-escape : (x : ℕ) (zs : List ℕ) → printable x ≡ true → Onward (92 ∷ x ∷ zs) zs 2
 by-escape x zs q = record {
-    back = λ m b. record {
-      inner = escaped x ∷ b .inner;
-      allowed = (q, b .allowed);
-      rest = b .rest;
-      spelt = ap (λ v. 92 ∷ x ∷ v) (b .spelt);
-      long = omega (arith, b .long);
-    };
-    forth = λ m b. go m (b .inner) (b .allowed) (b .rest) (b .spelt) (b .long);
-  }
+  back = λ m b. record {
+    inner = escaped x ∷ b .inner;
+    allowed = (q, b .allowed);
+    rest = b .rest;
+    spelt = ap (λ v. 92 ∷ x ∷ v) (b .spelt);
+    long = omega (arith, b .long);
+  };
+  forth = λ m b. go m (b .inner) (b .allowed) (b .rest) (b .spelt) (b .long);
+}
   where
     go : (m : ℕ) (ps : List Quotable) → All Allowed ps → (rest : List ℕ) → 92 ∷ x ∷ zs ≡ joined spelling ps ++ 34 ∷ rest → m ≡ length (joined spelling ps) + 1 → (j : ℕ) × (m ≡ 2 + j) × Body zs j
     go m [] a r e l = absurd (let z : 92 ≡ 34 = ap (λ v. getD v 0 0) e in omega arith)
@@ -117,9 +117,11 @@ body-of s ys n e q =
     let t : take n s ≡ 34 ∷ (i ++ 34 ∷ []) = q .form .spelt in
     let f : 34 ∷ ys ≡ 34 ∷ ((i ++ 34 ∷ []) ++ drop n s) = sym e ∙ sym (take-append-drop n s) ∙ ap (λ v. v ++ drop n s) t in
     let l : n ≡ length (34 ∷ (i ++ 34 ∷ [])) = sym (length-take-le n s (q .within)) ∙ ap length t in
-    let k : length (i ++ 34 ∷ []) ≡ length i + 1 = length-append i (34 ∷ []) in
-    (length i + 1, omega (arith, l, k),
-     record { inner = q .form .inner; allowed = q .form .allowed; rest = drop n s; spelt = ap (drop 1) f ∙ append-assoc i (34 ∷ []) (drop n s); long = refl })
+    let k : length (i ++ 34 ∷ []) ≡ length i + 1 = length-append i (34 ∷ []) in (
+      length i + 1,
+      omega (arith, l, k),
+      record { inner = q .form .inner; allowed = q .form .allowed; rest = drop n s; spelt = ap (drop 1) f ∙ append-assoc i (34 ∷ []) (drop n s); long = refl },
+    )
 
 quoted-from : (s ys : List ℕ) (m : ℕ) → s ≡ 34 ∷ ys → Body ys m → QuotedAt s (1 + m)
 quoted-from s ys m e b =
@@ -142,15 +144,15 @@ module _ (s : List ℕ) (some : 0 < length s) (opened : getD s 0 0 ≡ 34) (i : 
   read-on n l (inl h) z =
       let e : drop i s ≡ getD s i 0 ∷ drop (i + 1) s = drop-more s i 0 l in
       let a = onward-more (drop 1 s) (drop i s) (drop (i + 1) s) (i - 1) 1 on
-        (subst (λ (v : List ℕ). Onward v (drop (i + 1) s) 1) (sym e) (by-bare (getD s i 0) (drop (i + 1) s) (h .1))) in
+      (subst (λ (v : List ℕ). Onward v (drop (i + 1) s) 1) (sym e) (by-bare (getD s i 0) (drop (i + 1) s) (h .1))) in
       let k : i - 1 + 1 ≡ i + 1 - 1 = omega arith in
       (omega (arith, h .0), subst (λ (m : ℕ). Onward (drop 1 s) (drop (i + m) s) (i + m - 1)) (sym (h .0)) (subst (Onward (drop 1 s) (drop (i + 1) s)) k a))
   read-on n l (inr (inl h)) z =
       let j : i + 1 + 1 ≡ i + 2 = omega arith in
       let e : drop i s ≡ 92 ∷ getD s (i + 1) 0 ∷ drop (i + 2) s =
-        drop-more s i 0 l ∙ ap (λ x. x ∷ drop (i + 1) s) (h .1) ∙ ap (λ v. 92 ∷ v) (drop-more s (i + 1) 0 (h .2)) ∙ ap (λ m. 92 ∷ getD s (i + 1) 0 ∷ drop m s) j in
+      drop-more s i 0 l ∙ ap (λ x. x ∷ drop (i + 1) s) (h .1) ∙ ap (λ v. 92 ∷ v) (drop-more s (i + 1) 0 (h .2)) ∙ ap (λ m. 92 ∷ getD s (i + 1) 0 ∷ drop m s) j in
       let a = onward-more (drop 1 s) (drop i s) (drop (i + 2) s) (i - 1) 2 on
-        (subst (λ (v : List ℕ). Onward v (drop (i + 2) s) 2) (sym e) (by-escape (getD s (i + 1) 0) (drop (i + 2) s) (h .3))) in
+      (subst (λ (v : List ℕ). Onward v (drop (i + 2) s) 2) (sym e) (by-escape (getD s (i + 1) 0) (drop (i + 2) s) (h .3))) in
       let k : i - 1 + 2 ≡ i + 2 - 1 = omega arith in
       (omega (arith, h .0, h .2), subst (λ (m : ℕ). Onward (drop 1 s) (drop (i + m) s) (i + m - 1)) (sym (h .0)) (subst (Onward (drop 1 s) (drop (i + 2) s)) k a))
   read-on n l (inr (inr h)) z = absurd (z (h .0))
@@ -167,8 +169,8 @@ module _ (s : List ℕ) (some : 0 < length s) (opened : getD s 0 0 ≡ 34) (i : 
   read-stuck n l q (inr (inr h)) z =
       let f : getD (drop i s) 0 0 ≡ getD s i 0 = getD-drop i s 0 0 ∙ ap (λ k. getD s k 0) (add-zero i) in
       none-from (λ m.
-        stuck (drop i s) m (ap qtext f ∙ h .1) (λ k. q (sym f ∙ k))
-        (λ k j r. h .2 (sym f ∙ k) (omega (arith, length-drop i s)) (ap printable (sym (getD-drop i s 1 0)) ∙ r)))
+      stuck (drop i s) m (ap qtext f ∙ h .1) (λ k. q (sym f ∙ k))
+      (λ k j r. h .2 (sym f ∙ k) (omega (arith, length-drop i s)) (ap printable (sym (getD-drop i s 1 0)) ∙ r)))
 
   pub read-out : length s ≤ i → (m : ℕ) → QuotedAt s m → ⊥
   read-out g = none-from (λ m b. none-ends m (subst (λ (v : List ℕ). Body v m) (drop-all i s g) b))
@@ -181,7 +183,7 @@ module _ (s : List ℕ) (some : 0 < length s) (opened : getD s 0 0 ≡ 34) (i : 
       record {
         holds = subst (QuotedAt s) k (quoted-from s (drop 1 s) (i - 1 + 1) opens b);
         alone = λ m q.
-          let c = body-of s (drop 1 s) m opens q in
-          let f = on .forth (c .0) (c .2) in
-          omega (arith, c .1, f .1, closed-only (drop (i + 1) s) (f .0) (subst (λ (v : List ℕ). Body v (f .0)) d (f .2)));
+            let c = body-of s (drop 1 s) m opens q in
+            let f = on .forth (c .0) (c .2) in
+            omega (arith, c .1, f .1, closed-only (drop (i + 1) s) (f .0) (subst (λ (v : List ℕ). Body v (f .0)) d (f .2)));
       }

@@ -69,8 +69,8 @@ path-from xs p h =
       domain = take (h .m) (h .after);
       rest = h .behind;
       spelt = h .opened ∙ ap (λ v. 60 ∷ v)
-        (sym (take-append-drop (h .n) (h .rest))
-        ∙ ap (λ v. take (h .n) (h .rest) ++ v) (h .atSign ∙ ap (λ v. 64 ∷ v)
+          (sym (take-append-drop (h .n) (h .rest))
+          ∙ ap (λ v. take (h .n) (h .rest) ++ v) (h .atSign ∙ ap (λ v. 64 ∷ v)
           (sym (take-append-drop (h .m) (h .after)) ∙ ap (λ v. take (h .m) (h .after) ++ v) (h .closed))));
       isLocal = local-is (h .rest) (h .n) (h .local);
       isDomain = domain-is (h .after) (h .m) (h .domain);
@@ -88,9 +88,9 @@ module _ (xs rest : List ℕ) (opened : xs ≡ 60 ∷ rest) where
 
   pub no-local : ((n : ℕ) → LocalAt rest n → ⊥) → Fault PathAt xs 2
   no-local none = record {
-      why = inr (inl (refl, record { rest = rest; opened = opened; none = none }));
-      none = λ p q. let h = parts-of xs p q in none (h .n) (local-of p h);
-    }
+    why = inr (inl (refl, record { rest = rest; opened = opened; none = none }));
+    none = λ p q. let h = parts-of xs p q in none (h .n) (local-of p h);
+  }
 
   -- Behind the local part.
   module _ (n : ℕ) (local : Only (LocalAt rest) n) where
@@ -100,9 +100,9 @@ module _ (xs rest : List ℕ) (opened : xs ≡ 60 ∷ rest) where
 
     pub no-domain : ((ys : List ℕ) (m : ℕ) → drop n rest ≡ 64 ∷ ys → DomainAt ys m → ⊥) → Fault PathAt xs 3
     no-domain none = record {
-        why = inr (inr (inl (refl, record { rest = rest; opened = opened; n = n; local = local .holds; none = none })));
-        none = λ p q. let h = parts-of xs p q in none (h .after) (h .m) (at-of p h) (h .domain);
-      }
+      why = inr (inr (inl (refl, record { rest = rest; opened = opened; n = n; local = local .holds; none = none })));
+      none = λ p q. let h = parts-of xs p q in none (h .after) (h .m) (at-of p h) (h .domain);
+    }
 
     -- Behind the domain.
     module _ (after : List ℕ) (atSign : drop n rest ≡ 64 ∷ after) where
@@ -119,21 +119,32 @@ module _ (xs rest : List ℕ) (opened : xs ≡ 60 ∷ rest) where
 
         pub no-closing : ((ys : List ℕ) → drop m after ≡ 62 ∷ ys → ⊥) → Fault PathAt xs 4
         no-closing none = record {
-            why = inr (inr (inr (refl, record { rest = rest; opened = opened; n = n; local = local .holds; after = after; atSign = atSign; m = m; domain = domain; none = none })));
-            none = λ p q.
+          why = inr (inr (inr (refl, record { rest = rest; opened = opened; n = n; local = local .holds; after = after; atSign = atSign; m = m; domain = domain; none = none })));
+          none = λ p q.
               let h = parts-of xs p q in
               none (h .behind)
               (ap (drop m) (sym (same-after (h .after) (at-of p h))) ∙ ap (λ k. drop k (h .after)) (sym (domain-size p h)) ∙ h .closed);
-          }
+        }
 
         pub the-path : (ys : List ℕ) → drop m after ≡ 62 ∷ ys → (p : Path) → p .at ≡ 1 + n → p .end ≡ n + m + 3 → Only (PathAt xs) p
         the-path ys closed p a e = record {
-            holds = path-from xs p (record {
-              rest = rest; opened = opened; n = n; local = local .holds; after = after; atSign = atSign; m = m; domain = domain;
-              behind = ys; closed = closed; at-is = a; end-is = e });
-            alone = λ q r.
+          holds = path-from xs p (record {
+            rest = rest;
+            opened = opened;
+            n = n;
+            local = local .holds;
+            after = after;
+            atSign = atSign;
+            m = m;
+            domain = domain;
+            behind = ys;
+            closed = closed;
+            at-is = a;
+            end-is = e;
+          });
+          alone = λ q r.
               let h = parts-of xs q r in
               let i : q .at ≡ p .at = omega (arith, h .at-is, local .alone (h .n) (local-of q h), a) in
               let j : q .end ≡ p .end = omega (arith, h .end-is, local .alone (h .n) (local-of q h), domain-size q h, e) in
               ap (λ (v : ℕ). path v (q .end)) i ∙ ap (path (p .at)) j;
-          }
+        }

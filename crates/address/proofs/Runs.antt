@@ -81,9 +81,9 @@ next-word p d w r h =
     ∙ ap (λ k. length w + k) (cond-true (orDot p 46) (1 + leading (orDot p) r) 0 (or-right (p 46) (eqb 46 46) refl)) in (
       e,
       ap (λ k. pieces (take k (w ++ 46 ∷ r))) e
-      ∙ ap pieces (take-append-add w (46 ∷ r) (1 + leading (orDot p) r))
-      ∙ ap (λ k. pieces (w ++ take k (46 ∷ r))) (one-add (leading (orDot p) r))
-      ∙ pieces-dot p d w (run (orDot p) r) h,
+          ∙ ap pieces (take-append-add w (46 ∷ r) (1 + leading (orDot p) r))
+          ∙ ap (λ k. pieces (w ++ take k (46 ∷ r))) (one-add (leading (orDot p) r))
+          ∙ pieces-dot p d w (run (orDot p) r) h,
     )
 
 last-word : (p : ℕ → Bool) → p 46 ≡ false → (w r : List ℕ) → AllIn p w → leading (orDot p) r ≡ 0 →
@@ -92,8 +92,8 @@ last-word p d w r h z =
     let e : leading (orDot p) (w ++ r) ≡ length w = leading-is (orDot p) w r (with-dots p w h) z in (
       e,
       ap (λ k. pieces (take k (w ++ r))) (e ∙ sym (add-zero (length w)))
-      ∙ ap pieces (take-append-add w r 0 ∙ append-nil w)
-      ∙ pieces-word p d w h,
+          ∙ ap pieces (take-append-add w r 0 ∙ append-nil w)
+          ∙ pieces-word p d w h,
     )
 
 -- The run from a place on, where its first word ends and what stands there. W says what a word is.
@@ -131,9 +131,9 @@ module _ (p : ℕ → Bool) (d : p 46 ≡ false) (W : List ℕ → Type 0) (s : 
         | inl l ↦
             ap (leading (orDot p)) (drop-more s end 0 l)
             ∙ stops-at (orDot p) (getD s end 0) (drop (end + 1) s)
-              (or-from (p (getD s end 0)) (eqb (getD s end 0) 46)
-                (stopped p (getD s end 0) (drop (end + 1) s) (ap (leading p) (sym (drop-more s end 0 l)) ∙ rest-stops))
-                (ne-eqb (getD s end 0) 46 (h l)))
+            (or-from (p (getD s end 0)) (eqb (getD s end 0) 46)
+            (stopped p (getD s end 0) (drop (end + 1) s) (ap (leading p) (sym (drop-more s end 0 l)) ∙ rest-stops))
+            (ne-eqb (getD s end 0) 46 (h l)))
         | inr g ↦ ap (leading (orDot p)) (drop-all end s g)
       ]
 

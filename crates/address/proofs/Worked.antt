@@ -68,28 +68,28 @@ long-none w d l n k = go (k .form)
 
 pub examples : Examples
 examples = record {
-    reads = record {
-      local = 97 ∷ [];
-      domain = 98 ∷ [];
-      rest = [];
-      spelt = refl;
-      isLocal = record { form = inr (atom-a, tt); few = omega arith };
-      isDomain = domain-b;
-      atSign = refl;
-      ends = refl;
-    };
-    dots = no-local (codes "<a..b@c>") (codes "a..b@c>") refl dots-none;
-    hyphen = no-label (codes "<a@-b>") (codes "a@-b>") refl 1 (local-a (codes "-b>")) (codes "-b>") refl hyphen-none;
-    unclosed = no-closing (codes "<a@b") (codes "a@b") refl 1 (local-a (codes "b")) (codes "b") refl 1 domain-at-b (λ ys e. omega (arith, ap length e));
-    longest = λ w d l. record {
-      local = w;
-      domain = 98 ∷ [];
-      rest = [];
-      spelt = refl;
-      isLocal = record { form = inr d; few = omega arith };
-      isDomain = domain-b;
-      atSign = omega arith;
-      ends = refl;
-    };
-    tooLong = λ w d l. no-local (60 ∷ (w ++ codes "@b>")) (w ++ codes "@b>") refl (long-none w d l);
-  }
+  reads = record {
+    local = 97 ∷ [];
+    domain = 98 ∷ [];
+    rest = [];
+    spelt = refl;
+    isLocal = record { form = inr (atom-a, tt); few = omega arith };
+    isDomain = domain-b;
+    atSign = refl;
+    ends = refl;
+  };
+  dots = no-local (codes "<a..b@c>") (codes "a..b@c>") refl dots-none;
+  hyphen = no-label (codes "<a@-b>") (codes "a@-b>") refl 1 (local-a (codes "-b>")) (codes "-b>") refl hyphen-none;
+  unclosed = no-closing (codes "<a@b") (codes "a@b") refl 1 (local-a (codes "b")) (codes "b") refl 1 domain-at-b (λ ys e. omega (arith, ap length e));
+  longest = λ w d l. record {
+    local = w;
+    domain = 98 ∷ [];
+    rest = [];
+    spelt = refl;
+    isLocal = record { form = inr d; few = omega arith };
+    isDomain = domain-b;
+    atSign = omega arith;
+    ends = refl;
+  };
+  tooLong = λ w d l. no-local (60 ∷ (w ++ codes "@b>")) (w ++ codes "@b>") refl (long-none w d l);
+}

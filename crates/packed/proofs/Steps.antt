@@ -77,11 +77,17 @@ over-part f xs ys a n h e p =
 
 -- A row taken out of the list, in the memory that it leaves.
 module _ (s : PackedLog) (at : ℕ) (r : LogRow) (known : Known s at r) (within : at < s .entries .count) (zs : List LogRow) (k : OrderedList)
-  (M : Now (s .rows) (s .entries) k zs (take at (rowsOf s) ++ drop (at + 1) (rowsOf s))) where
+    (M : Now (s .rows) (s .entries) k zs (take at (rowsOf s) ++ drop (at + 1) (rowsOf s))) where
   pub rows-out : k .count + 1 ≡ s .entries .count
   rows-out =
-      omega (arith, M .count, length-append (take at (rowsOf s)) (drop (at + 1) (rowsOf s)), length-take-le (s .entries .count) (s .rows .items) (s .rowsFit),
-      length-take-le at (rowsOf s) (omega (arith, length-take-le (s .entries .count) (s .rows .items) (s .rowsFit))), length-drop (at + 1) (rowsOf s))
+      omega (
+        arith,
+        M .count,
+        length-append (take at (rowsOf s)) (drop (at + 1) (rowsOf s)),
+        length-take-le (s .entries .count) (s .rows .items) (s .rowsFit),
+        length-take-le at (rowsOf s) (omega (arith, length-take-le (s .entries .count) (s .rows .items) (s .rowsFit))),
+        length-drop (at + 1) (rowsOf s),
+      )
 
   front-long : length (take at (rowsOf s)) ≡ at
   front-long = length-take-le at (rowsOf s) (omega (arith, length-take-le (s .entries .count) (s .rows .items) (s .rowsFit)))
@@ -111,8 +117,15 @@ module _ (s : PackedLog) (at : ℕ) (r : LogRow) (known : Known s at r) (within 
       let bs : List ℕ = s .octets .items in
       let used : ℕ = s .packed .count in
       let lu : length (take used bs) ≡ used = length-take-le used bs (s .octetsFit) in
-      omega (arith, N .count, length-append (take (r .offset) (take used bs)) (drop (r .offset + r .length) (take used bs)), lu,
-      length-take-le (r .offset) (take used bs) (omega (arith, known .ends-in, lu)), length-drop (r .offset + r .length) (take used bs), known .ends-in)
+      omega (
+        arith,
+        N .count,
+        length-append (take (r .offset) (take used bs)) (drop (r .offset + r .length) (take used bs)),
+        lu,
+        length-take-le (r .offset) (take used bs) (omega (arith, known .ends-in, lu)),
+        length-drop (r .offset + r .length) (take used bs),
+        known .ends-in,
+      )
 
   -- The memory once the rows behind it are lowered and the octets behind its payload have moved down.
   pub removing : (ys : List ℕ) (l : OrderedList) (xs vs : List LogRow) →

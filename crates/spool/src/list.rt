@@ -74,7 +74,12 @@ impl OrderedList {
     }
 
     // Takes out `by` records from a place on. Each record behind them moves once.
-    pub fn remove_run<T: Copy>(&mut self, memory: &mut [T], at: usize, by: usize) -> Result<(), Refusal>
+    pub fn remove_run<T: Copy>(
+        &mut self,
+        memory: &mut [T],
+        at: usize,
+        by: usize,
+    ) -> Result<(), Refusal>
         ensures answer { λ r. ⌜ told r ≡ removes (recordsOf (now (self .entry)) (now (memory .entry))) at by ⌝ }
         ensures after { λ _. ⌜ recordsOf (now (self .exit)) (now (memory .exit)) ≡ remaining (recordsOf (now (self .entry)) (now (memory .entry))) at by ⌝ }
         ensures count { λ r. ⌜ (isOk r ≡ true → now (self .exit) .count ≡ length (recordsOf (now (self .exit)) (now (memory .exit)))) ⌝ }

@@ -31,7 +31,12 @@ pub fn open<S: Spool>(spool: &mut S) -> Result<Ticket, Refusal>
 }
 
 // Adds an entry to the lot.
-pub fn stage<S: Spool>(spool: &mut S, _ticket: &Ticket, mailbox: usize, payload: &[u8]) -> Result<(), Refusal>
+pub fn stage<S: Spool>(
+    spool: &mut S,
+    _ticket: &Ticket,
+    mailbox: usize,
+    payload: &[u8],
+) -> Result<(), Refusal>
     ensures refused { λ r. ⌜ (isOk r ≡ false → now (spool .exit) ≡ now (spool .entry)) ⌝ }
     ensures answer { λ r. ⌜ told r ≡ stages mailbox (S·Spool .lot (now (spool .entry))) (S·Spool .room (now (spool .entry)) mailbox (length (now (payload .entry)))) ⌝ }
     ensures held { λ _. ⌜ S·Spool .held (now (spool .exit)) ≡ S·Spool .held (now (spool .entry)) ⌝ }

@@ -18,10 +18,16 @@ use spool::refusal::Rejected;
 use spool::refusal::RoomFault;
 
 // An empty log over 512 to 65,536 octets and 1 to 256 rows; refused, and the memory handed back, where it has more or less.
-pub fn build(octets: Vec<u8>, rows: Vec<LogRow>) -> Result<PackedLog, Rejected<(Vec<u8>, Vec<LogRow>)>>
+pub fn build(
+    octets: Vec<u8>,
+    rows: Vec<LogRow>,
+) -> Result<PackedLog, Rejected<(Vec<u8>, Vec<LogRow>)>>
     ensures { λ r. ⌜ Cases r (λ s. LawfulLog (vec-len octets) (vec-len rows) × (heldOf s ≡ []) × (lotOf s ≡ None) × (floorOf s ≡ vec-len octets)) (λ e. (notice (e .refusal) ≡ plain 14) × (e .given ≡ (octets, rows)) × (LawfulLog (vec-len octets) (vec-len rows) → ⊥)) ⌝ }
 {
-    let lawful = octets.len() >= 512 && octets.len() <= 65536 && rows.len() >= 1 && rows.len() <= 256;
+    let lawful = octets.len() >= 512
+        && octets.len() <= 65536
+        && rows.len() >= 1
+        && rows.len() <= 256;
     if !lawful {
         return Err(Rejected {
             refusal: Refusal::Unlawful,
@@ -207,7 +213,8 @@ pub impl Spool for PackedLog as PackedLogSpool {
         }
         let row = self.rows[at];
         let filed = self.filed;
-        let _ = self.packed.remove_run(self.octets.as_mut_slice(), row.offset, row.length);
+        let _ = self.packed
+            .remove_run(self.octets.as_mut_slice(), row.offset, row.length);
         let _ = self.entries.remove(self.rows.as_mut_slice(), at);
         lower(self.rows.as_mut_slice(), at, filed - 1, row.length);
         self.filed = filed - 1;

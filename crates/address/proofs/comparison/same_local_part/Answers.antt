@@ -10,9 +10,10 @@ returns-then-eq c =
 
 pub returns-else-is-postmaster : need.returns-else-is-postmaster
 returns-else-is-postmaster c =
-    let d = matches-decides (c .args .a .now) (c .args .b .now) (c .eq .result) (c .eq .ensures) in
-    (λ e. absurd (false≢true (sym (c .if-is-postmaster .left) ∙ e)),
-     λ h. elim h [
-       | inl e ↦ absurd (false≢true (sym (c .if-eq .left) ∙ d .1 e))
-       | inr k ↦ c .is-postmaster .ensures .1 (k .0)
-     ])
+    let d = matches-decides (c .args .a .now) (c .args .b .now) (c .eq .result) (c .eq .ensures) in (
+      λ e. absurd (false≢true (sym (c .if-is-postmaster .left) ∙ e)),
+      λ h. elim h [
+        | inl e ↦ absurd (false≢true (sym (c .if-eq .left) ∙ d .1 e))
+        | inr k ↦ c .is-postmaster .ensures .1 (k .0)
+      ],
+    )

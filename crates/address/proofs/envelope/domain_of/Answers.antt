@@ -3,6 +3,6 @@ use Rattle.address.proofs.envelope.domain_of.Needs as need
 
 pub returns : need.returns
 returns c = record {
-    value = c .domain-octets .ensures;
-    meaning = domain-means (c .args .line .now) (c .args .name .now) (c .args .path) (c .domain-octets .result .now) (c .domain-octets .ensures);
-  }
+  value = c .domain-octets .ensures;
+  meaning = domain-means (c .args .line .now) (c .args .name .now) (c .args .path) (c .domain-octets .result .now) (c .domain-octets .ensures);
+}

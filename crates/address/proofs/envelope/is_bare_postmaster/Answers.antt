@@ -17,12 +17,13 @@ returns-then-not-stands-2 c =
 
 pub returns : need.returns
 returns c =
-    let s = c .args .s .now in
-    (λ e. record {
-       name = take 10 (drop 1 s);
-       rest = drop 12 s;
-       spelt = c .if-not-stands .ensures tt .yes refl ∙ ap (λ v. 60 ∷ v)
-         (sym (take-append-drop 10 (drop 1 s)) ∙ ap (λ v. take 10 (drop 1 s) ++ v) (drop-drop 10 1 s ∙ c .if-not-stands-2 .ensures tt .yes refl));
-       isPostmaster = c .is-postmaster .ensures .0 e;
-     },
-     λ h. c .is-postmaster .ensures .1 (subst IsPostmaster (sym (postmaster-name s h)) (h .isPostmaster)))
+    let s = c .args .s .now in (
+      λ e. record {
+        name = take 10 (drop 1 s);
+        rest = drop 12 s;
+        spelt = c .if-not-stands .ensures tt .yes refl ∙ ap (λ v. 60 ∷ v)
+            (sym (take-append-drop 10 (drop 1 s)) ∙ ap (λ v. take 10 (drop 1 s) ++ v) (drop-drop 10 1 s ∙ c .if-not-stands-2 .ensures tt .yes refl));
+        isPostmaster = c .is-postmaster .ensures .0 e;
+      },
+      λ h. c .is-postmaster .ensures .1 (subst IsPostmaster (sym (postmaster-name s h)) (h .isPostmaster)),
+    )

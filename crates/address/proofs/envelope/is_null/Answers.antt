@@ -11,9 +11,10 @@ returns-then-not-stands c =
 
 pub returns : need.returns
 returns c =
-    let s = c .args .s .now in
-    (λ e. record { rest = drop 2 s; spelt = c .if-not-stands .ensures tt .yes refl ∙ ap (λ v. 60 ∷ v) (c .stands-2 .ensures .yes e) },
-     λ h. elim (cases-bool (c .stands-2 .result)) [
-       | inl t ↦ t
-       | inr f ↦ absurd (c .stands-2 .ensures .no f (h .rest) (ap (drop 1) (h .spelt)))
-     ])
+    let s = c .args .s .now in (
+      λ e. record { rest = drop 2 s; spelt = c .if-not-stands .ensures tt .yes refl ∙ ap (λ v. 60 ∷ v) (c .stands-2 .ensures .yes e) },
+      λ h. elim (cases-bool (c .stands-2 .result)) [
+        | inl t ↦ t
+        | inr f ↦ absurd (c .stands-2 .ensures .no f (h .rest) (ap (drop 1) (h .spelt)))
+      ],
+    )

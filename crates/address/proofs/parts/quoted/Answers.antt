@@ -21,7 +21,7 @@ pub loop-i-again : need.loop-i-again
 loop-i-again c =
     let v = c .loop-i .inv in
     let r = read-on (c .args .s .now) (c .pre .some) (c .pre .opened) (c .loop-i .i) (v .0) (v .2)
-      (c .quotable-n .result) (c .loop-i-test .taken) (c .quotable-n .ensures) (c .if-n-eq0 .left) in
+    (c .quotable-n .result) (c .loop-i-test .taken) (c .quotable-n .ensures) (c .if-n-eq0 .left) in
     (omega (arith, v .0), r .0, r .1)
 
 pub returns : need.returns

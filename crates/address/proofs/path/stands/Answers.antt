@@ -10,10 +10,10 @@ use Rattle.address.proofs.path.stands.Needs as need
 
 pub returns-then-at-s : need.returns-then-at-s
 returns-then-at-s c = record {
-    yes = λ e. absurd (false≢true e);
-    no = λ _ ys e. omega (arith, ap length (sym (drop-all (c .args .at) (c .args .s .now) (c .if-at-s .taken)) ∙ e));
-    within = λ e. absurd (false≢true e);
-  }
+  yes = λ e. absurd (false≢true e);
+  no = λ _ ys e. omega (arith, ap length (sym (drop-all (c .args .at) (c .args .s .now) (c .if-at-s .taken)) ∙ e));
+  within = λ e. absurd (false≢true e);
+}
 
 pub returns : need.returns
 returns c =

@@ -8,10 +8,11 @@ use Rattle.address.proofs.Fitting.{noRow}
 use Rattle.address.proofs.spelling.all_good.Needs as need
 
 pub returns-then-not-is-good : need.returns-then-not-is-good
-returns-then-not-is-good c =
-    (λ e. absurd (false≢true e),
-     λ h. c .if-not-is-good .ensures tt .1
-       (all-getD (GoodRow (c .args .kind) (c .args .text .now)) (c .args .rows .now) (c .loop-i .i) noRow (c .loop-i-test .taken) h))
+returns-then-not-is-good c = (
+  λ e. absurd (false≢true e),
+  λ h. c .if-not-is-good .ensures tt .1
+      (all-getD (GoodRow (c .args .kind) (c .args .text .now)) (c .args .rows .now) (c .loop-i .i) noRow (c .loop-i-test .taken) h),
+)
 
 pub loop-i-again : need.loop-i-again
 loop-i-again c =
@@ -19,6 +20,7 @@ loop-i-again c =
     (c .loop-i .inv) (c .if-not-is-good .ensures tt .0 refl)
 
 pub returns : need.returns
-returns c =
-    (λ _. subst (All (GoodRow (c .args .kind) (c .args .text .now))) (take-all (c .loop-i .i) (c .args .rows .now) (c .loop-i-test .left)) (c .loop-i .inv),
-     λ _. refl)
+returns c = (
+  λ _. subst (All (GoodRow (c .args .kind) (c .args .text .now))) (take-all (c .loop-i .i) (c .args .rows .now) (c .loop-i-test .left)) (c .loop-i .inv),
+  λ _. refl,
+)

@@ -13,9 +13,10 @@ abbrev Below : DirectoryRow → Type 0
 Below row = row .mailbox < 64
 
 pub returns-then-rows-i-gt63 : need.returns-then-rows-i-gt63
-returns-then-rows-i-gt63 c =
-    (λ e. absurd (false≢true e),
-     λ h. absurd (omega (arith, c .if-rows-i-gt63 .taken, all-getD Below (c .args .rows .now) (c .loop-i .i) noRow (c .loop-i-test .taken) h)))
+returns-then-rows-i-gt63 c = (
+  λ e. absurd (false≢true e),
+  λ h. absurd (omega (arith, c .if-rows-i-gt63 .taken, all-getD Below (c .args .rows .now) (c .loop-i .i) noRow (c .loop-i-test .taken) h)),
+)
 
 pub loop-i-again : need.loop-i-again
 loop-i-again c =

@@ -21,7 +21,7 @@ returns-then-fits c =
     let F : List DirectoryRow → Option ℕ = λ v. firstFit (c .args .kind) text v local domain in
     let row = getD rows (c .loop-i .i) noRow in
     let e : fitsRow (c .args .kind) (octetsOf text row) local domain ≡ true =
-      ap (λ v. fitsRow (c .args .kind) v local domain) (sym (c .octets .ensures)) ∙ sym (c .if-fits .ensures tt) in
+    ap (λ v. fitsRow (c .args .kind) v local domain) (sym (c .octets .ensures)) ∙ sym (c .if-fits .ensures tt) in
     sym (cond-true (fitsRow (c .args .kind) (octetsOf text row) local domain) (Some (row .mailbox)) (F (drop (c .loop-i .i + 1) rows)) e)
     ∙ sym (at-drop-more F rows (c .loop-i .i) noRow (c .loop-i-test .taken)) ∙ c .loop-i .inv
 
@@ -34,7 +34,7 @@ loop-i-again c =
     let F : List DirectoryRow → Option ℕ = λ v. firstFit (c .args .kind) text v local domain in
     let row = getD rows (c .loop-i .i) noRow in
     let e : fitsRow (c .args .kind) (octetsOf text row) local domain ≡ false =
-      ap (λ v. fitsRow (c .args .kind) v local domain) (sym (c .octets .ensures)) ∙ sym (c .if-fits .ensures tt) in
+    ap (λ v. fitsRow (c .args .kind) v local domain) (sym (c .octets .ensures)) ∙ sym (c .if-fits .ensures tt) in
     sym (cond-false (fitsRow (c .args .kind) (octetsOf text row) local domain) (Some (row .mailbox)) (F (drop (c .loop-i .i + 1) rows)) e)
     ∙ sym (at-drop-more F rows (c .loop-i .i) noRow (c .loop-i-test .taken)) ∙ c .loop-i .inv
 

@@ -10,8 +10,8 @@ returns-then-not-same-local-part c =
     let row = c .args .row .now in
     let local = c .args .local .now in
     let l : sameLocal (beforeAt row) local ≡ false =
-      ap (λ v. sameLocal v local) (sym (c .cut .ensures .before))
-      ∙ sym (same-local-is (c .same-local-part .result) (c .cut .result .0 .now) local (c .same-local-part .ensures)) ∙ c .if-not-same-local-part .taken in
+    ap (λ v. sameLocal v local) (sym (c .cut .ensures .before))
+    ∙ sym (same-local-is (c .same-local-part .result) (c .cut .result .0 .now) local (c .same-local-part .ensures)) ∙ c .if-not-same-local-part .taken in
     sym (and-left (sameLocal (beforeAt row) local) (sameDomain (behindAt row) (c .args .domain .now)) l)
 
 pub returns : need.returns
@@ -20,8 +20,8 @@ returns c =
     let local = c .args .local .now in
     let domain = c .args .domain .now in
     let l : sameLocal (beforeAt row) local ≡ true =
-      ap (λ v. sameLocal v local) (sym (c .cut .ensures .before))
-      ∙ sym (same-local-is (c .same-local-part .result) (c .cut .result .0 .now) local (c .same-local-part .ensures)) ∙ c .if-not-same-local-part .left in
+    ap (λ v. sameLocal v local) (sym (c .cut .ensures .before))
+    ∙ sym (same-local-is (c .same-local-part .result) (c .cut .result .0 .now) local (c .same-local-part .ensures)) ∙ c .if-not-same-local-part .left in
     same-domain-is (c .same-domain .result) (c .cut .result .1 .now) domain (c .same-domain .ensures)
     ∙ ap (λ v. sameDomain v domain) (c .cut .ensures .behind)
     ∙ sym (ap (λ v. v && sameDomain (behindAt row) domain) l)

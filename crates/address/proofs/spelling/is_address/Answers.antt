@@ -9,6 +9,7 @@ use Rattle.address.proofs.spelling.is_address.Needs as need
 
 pub returns-then-domain-s : need.returns-then-domain-s
 returns-then-domain-s c =
-    let s = c .args .s .now in
-    (λ e. absurd (false≢true e),
-     λ h. absurd (omega (arith, c .if-domain-s .taken, ap length (c .cut .ensures .behind), ap length (h .spelt), length-append (beforeAt s) (64 ∷ behindAt s))))
+    let s = c .args .s .now in (
+      λ e. absurd (false≢true e),
+      λ h. absurd (omega (arith, c .if-domain-s .taken, ap length (c .cut .ensures .behind), ap length (h .spelt), length-append (beforeAt s) (64 ∷ behindAt s))),
+    )

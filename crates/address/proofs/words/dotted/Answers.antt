@@ -43,7 +43,7 @@ returns-then-end-s c =
     let e : end ≡ leading (orDot p) s = omega (arith, l .0, c .loop-word .inv .1, c .word-end-end .ensures) in (
       e,
       subst (λ (n : ℕ). Dotted (c .args .word) (take n s)) (sym e)
-      (c .loop-word .inv .2 (subst (All (IsWord (c .args .word))) (sym (l .1)) (c .if-not-is-word .ensures tt .0 refl, tt))),
+          (c .loop-word .inv .2 (subst (All (IsWord (c .args .word))) (sym (l .1)) (c .if-not-is-word .ensures tt .0 refl, tt))),
     )
 
 pub loop-word-again : need.loop-word-again

@@ -10,7 +10,8 @@ use Rattle.address.proofs.words.is_word.Needs as need
 pub returns-in-Atom : need.returns-in-Atom
 returns-in-Atom c =
     let w = between (c .args .from) (c .args .end) (c .args .s .now) in
-    let P : Word → Type 0 = λ v. AllIn (wordOctet v) w in
-    (λ _. subst (λ (v : Word). IsWord v w) (sym (c .in-Atom .is))
-       (record { some = omega (arith, length-between (c .args .s .now) (c .args .from) (c .args .end) (c .pre .within)); octets = subst P (c .in-Atom .is) (c .pre .octets) }),
-     λ _. refl)
+    let P : Word → Type 0 = λ v. AllIn (wordOctet v) w in (
+      λ _. subst (λ (v : Word). IsWord v w) (sym (c .in-Atom .is))
+          (record { some = omega (arith, length-between (c .args .s .now) (c .args .from) (c .args .end) (c .pre .within)); octets = subst P (c .in-Atom .is) (c .pre .octets) }),
+      λ _. refl,
+    )

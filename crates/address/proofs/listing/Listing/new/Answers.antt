@@ -14,10 +14,10 @@ ghost-result c =
     let text = vec-items (c .args .text) in
     let rows = vec-items (c .args .rows) in
     let good : GoodRows kind text rows =
-      subst (λ (v : List DirectoryRow). GoodRows kind text v) (c .as-slice-2 .ensures .value)
-      (subst (λ (v : List ℕ). GoodRows kind v (c .as-slice-2 .result .now)) (c .as-slice .ensures .value) (c .if-not-all-good .ensures tt .0 refl)) in
+    subst (λ (v : List DirectoryRow). GoodRows kind text v) (c .as-slice-2 .ensures .value)
+    (subst (λ (v : List ℕ). GoodRows kind v (c .as-slice-2 .result .now)) (c .as-slice .ensures .value) (c .if-not-all-good .ensures tt .0 refl)) in
     let mailboxes : GoodMailboxes rows =
-      subst (λ (v : List DirectoryRow). GoodMailboxes v) (c .as-slice-3 .ensures .value) (c .if-not-all-mailboxes .ensures tt .0 refl) in (
+    subst (λ (v : List DirectoryRow). GoodMailboxes v) (c .as-slice-3 .ensures .value) (c .if-not-all-mailboxes .ensures tt .0 refl) in (
       λ k d l. all-getD (GoodRow kind text) rows k d l good .within,
       (
         λ k d l. all-getD (λ (row : DirectoryRow). row .mailbox < 64) rows k d l mailboxes,
