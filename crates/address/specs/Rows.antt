@@ -12,7 +12,7 @@ use Rattle.std.specs.declared.option.Option.{Option}
 use Rattle.std.specs.declared.option.Option.the-variants.{Some, None}
 use Rattle.std.specs.shelf.Lists.{All, ending}
 use Rattle.std.specs.shelf.Text.{sameBytes}
-use Rattle.spool.specs.Refusals.{Notice, plain}
+use Rattle.refusals.specs.Refusals.{Notice, plain}
 use Rattle.address.specs.Parts.{IsLocal, IsDomain}
 use Rattle.address.specs.declared.row.DirectoryRow.{DirectoryRow}
 use Rattle.address.specs.declared.row.RowKind.{RowKind}

@@ -1,6 +1,6 @@
 ghost use Rattle.address.specs.Rows.{Lawful, Refused, firstFit};
 ghost use Rattle.address.specs.declared.row.RowKind.the-variants.{Domains};
-ghost use Rattle.spool.specs.Refusals.{notice};
+ghost use Rattle.refusals.specs.Refusals.{notice};
 ghost use Rattle.std.specs.Of.Vec.{vec-items};
 ghost use Rattle.std.specs.Results.{Cases};
 ghost use mathlib.Core.Path.{_≡_};
@@ -8,7 +8,7 @@ use crate::directory::Directory;
 use crate::listing::Listing;
 use crate::row::DirectoryRow;
 use crate::row::RowKind;
-use spool::refusal::Rejected;
+use refusals::refusal::Rejected;
 
 // A directory whose rows spell domains, each for every local part.
 #[derive(Drop)]

@@ -1,7 +1,7 @@
 ghost use Prim.Native.Nat.{ℕ, _+_, _<_, _≤_};
 ghost use Rattle.address.specs.Rows.{Lawful, Refused, firstFit};
 ghost use Rattle.address.specs.declared.row.DirectoryRow.{DirectoryRow};
-ghost use Rattle.spool.specs.Refusals.{notice};
+ghost use Rattle.refusals.specs.Refusals.{notice};
 ghost use Rattle.std.specs.Of.Vec.{vec-items};
 ghost use Rattle.std.specs.Results.{Cases};
 ghost use lib.ListN.{getD, length};
@@ -11,8 +11,8 @@ use crate::row::RowKind;
 use crate::spelling::all_good;
 use crate::spelling::all_mailboxes;
 use crate::spelling::first_fit;
-use spool::refusal::Refusal;
-use spool::refusal::Rejected;
+use refusals::refusal::Refusal;
+use refusals::refusal::Rejected;
 
 // A text and its rows, which all lie in it.
 #[derive(Drop)]

@@ -12,7 +12,7 @@ use Rattle.std.proofs.shelf.Lists.{length-take-le, length-drop, take-take, take
 use Rattle.spool.specs.Entries.{Entry}
 use Rattle.packed.specs.Packing.{total, cut, offsets, starts, lowered}
 use Rattle.packed.specs.declared.row.LogRow.{LogRow}
-use Rattle.packed.proofs.Places.{none-some, same-some, nth-within, split-at, removed-at}
+use Rattle.spool.proofs.Places.{none-some, same-some, nth-within, split-at, removed-at}
 
 -- The entry of a row whose payload starts at some place.
 abbrev pub entryAt : List ℕ → ℕ → LogRow → Entry

@@ -1,4 +1,3 @@
 pub mod Cuts
 pub mod Logs
-pub mod Places
 pub mod Steps

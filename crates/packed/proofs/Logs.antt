@@ -23,7 +23,7 @@ use Rattle.packed.specs.Packing.{total, cut}
 use Rattle.packed.specs.declared.log.PackedLog.{PackedLog}
 use Rattle.packed.specs.declared.row.LogRow.{LogRow}
 use Rattle.packed.proofs.Cuts.{Packed, entryAt, length-cut, take-cut, cut-nth, offset-nth, total-nth}
-use Rattle.packed.proofs.Places.{none-some, nth-take, nth-drop}
+use Rattle.spool.proofs.Places.{none-some, nth-take, nth-drop}
 
 abbrev pub rowsOf : PackedLog → List LogRow
 rowsOf s = take (s .entries .count) (s .rows .items)

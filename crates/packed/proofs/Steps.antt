@@ -22,7 +22,7 @@ use Rattle.packed.specs.declared.log.PackedLog.{PackedLog}
 use Rattle.packed.specs.declared.row.LogRow.{LogRow}
 use Rattle.packed.proofs.Cuts.{grows, shrinks, left, offset-nth, gapless-back, total-nth, length-cut}
 use Rattle.packed.proofs.Logs.{rowsOf, packed, Free, Known, entries-length}
-use Rattle.packed.proofs.Places.{split-at}
+use Rattle.spool.proofs.Places.{split-at}
 
 -- A memory with so many octets used and so many rows, that keeps what a log's type says of it, and the entries in it.
 pub record Keeps (s : PackedLog) (bs : List ℕ) (rows : List LogRow) (used count : ℕ) (es : List Entry) : Type 0 where

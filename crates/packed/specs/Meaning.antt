@@ -9,7 +9,7 @@ use Rattle.std.specs.declared.option.Option.{Option}
 use Rattle.std.specs.declared.option.Option.the-variants.{Some, None}
 use Rattle.std.specs.declared.vec.Vec.{Vec}
 use Rattle.spool.specs.Entries.{Entry}
-use Rattle.spool.specs.declared.refusal.RoomFault.{RoomFault}
+use Rattle.refusals.specs.declared.refusal.RoomFault.{RoomFault}
 use Rattle.packed.specs.Packing.{cut}
 use Rattle.packed.specs.declared.log.PackedLog.{PackedLog}
 

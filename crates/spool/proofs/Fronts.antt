@@ -15,7 +15,7 @@ use Rattle.std.specs.declared.result.Result.the-variants.{Ok, Err}
 use Rattle.std.proofs.shelf.Lists.{length-take, length-take-le, length-drop, length-append, take-all, take-take, getD-take, getD-drop, getD-append-left, getD-append-right, same-lists}
 use Rattle.std.proofs.shelf.Tests.{cases-lt, cond-true, cond-false, le-leb, lt-leb}
 use Rattle.spool.specs.Lists.{appends, appended, removes, remaining, present}
-use Rattle.spool.specs.Refusals.{Notice, plain}
+use Rattle.refusals.specs.Refusals.{Notice, plain}
 
 -- The place where a list ends in its memory.
 pub front-length : {X : Type 0} (xs : List X) (c n : ℕ) → n ≡ min c (length xs) → length (take c xs) ≡ n

@@ -1,3 +1,4 @@
 pub mod Fronts
 pub mod Owned
+pub mod Places
 pub mod Told

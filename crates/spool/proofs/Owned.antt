@@ -14,9 +14,9 @@ use Rattle.std.specs.declared.vec.Vec.{Vec}
 use Rattle.std.proofs.shelf.Lists.{length-take-le, length-drop, length-append, refilled-is}
 use Rattle.std.proofs.shelf.Tests.{cond-true, le-leb}
 use Rattle.spool.specs.Lists.{records, appends, appended, removes, remaining}
-use Rattle.spool.specs.Refusals.{told}
+use Rattle.refusals.specs.Refusals.{told}
 use Rattle.spool.specs.declared.list.OrderedList.{OrderedList}
-use Rattle.spool.specs.declared.refusal.Refusal.{Refusal}
+use Rattle.refusals.specs.declared.refusal.Refusal.{Refusal}
 
 -- An answer that tells of success is a success.
 pub told-ok : {T : Type 0} (r : Result T Refusal) (x : T) → told r ≡ Ok x → isOk r ≡ true

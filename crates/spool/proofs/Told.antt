@@ -17,12 +17,13 @@ use Rattle.std.specs.declared.result.Result.the-variants.{Ok, Err}
 use Rattle.std.proofs.shelf.Tests.{cases-lt, cond-true, cond-false, lt-ltb, le-ltb, le-leb, lt-leb}
 use Rattle.spool.specs.Entries.{Entry}
 use Rattle.spool.specs.Lists.{present}
-use Rattle.spool.specs.Refusals.{Notice, plain, noRoom, notice, told}
+use Rattle.refusals.specs.Refusals.{Notice, plain, noRoom, notice, told}
 use Rattle.spool.specs.Rules.{staged, stages, stagesInto, grown, extended, unlessFault, asksRoom, removes, remains, summary, tells, copiesOf, copies, copied, copiedOf}
 use Rattle.spool.specs.declared.entry.Summary.{Summary}
-use Rattle.spool.specs.declared.refusal.RoomFault.{RoomFault}
-use Rattle.spool.specs.declared.refusal.Refusal.{Refusal}
+use Rattle.refusals.specs.declared.refusal.RoomFault.{RoomFault}
+use Rattle.refusals.specs.declared.refusal.Refusal.{Refusal}
 use Rattle.spool.proofs.Fronts.{nth-absent}
+use Rattle.spool.proofs.Places.{nth-within}
 
 -- The entry at a place.
 pub tells-past : (es : List Entry) (at : ℕ) → length es ≤ at → Err (plain 13) ≡ tells es at
@@ -81,14 +82,21 @@ past-end [] at n h = omega arith
 past-end (x ∷ es) zero n h = let z : _≡_ {A = ℕ} 0 1 = cc in absurd (omega arith)
 past-end (x ∷ es) (suc at) n h = omega (arith, past-end es at n h)
 
+pub told-entry : (es : List Entry) (at : ℕ) (s : Summary) → Ok s ≡ tells es at → (e : Entry) × ((nth es at ≡ Some e) × (s ≡ summary e))
+told-entry [] at s h = let z : _≡_ {A = ℕ} 0 1 = cc in absurd (omega arith)
+told-entry (x ∷ es) zero s h = (x, (refl, let e : s ≡ summary x = cc in e))
+told-entry (x ∷ es) (suc at) s h = told-entry es at s h
+
 pub told-at : (es : List Entry) (at : ℕ) (s : Summary) → Ok s ≡ tells es at → at < length es
-told-at [] at s h = let z : _≡_ {A = ℕ} 0 1 = cc in absurd (omega arith)
-told-at (x ∷ es) zero s h = omega arith
-told-at (x ∷ es) (suc at) s h = omega (arith, told-at es at s h)
+told-at es at s h = let t = told-entry es at s h in nth-within es at (t .0) (t .1 .0)
 
 no-fault : (f : Option RoomFault) → Ok tt ≡ unlessFault f → f ≡ None
 no-fault None h = refl
 no-fault (Some f) h = let z : _≡_ {A = ℕ} 0 1 = cc in absurd (omega arith)
+
+some-fault : (f : Option RoomFault) (n : Notice) → Err n ≡ unlessFault f → (x : RoomFault) × ((f ≡ Some x) × (n ≡ noRoom x))
+some-fault None n h = let z : _≡_ {A = ℕ} 0 1 = cc in absurd (omega arith)
+some-fault (Some x) n h = (x, (refl, let e : n ≡ noRoom x = cc in e))
 
 -- A question for room that is not refused: the mailbox is there, and so is room.
 pub room-had : (m : ℕ) (f : Option RoomFault) → Ok tt ≡ asksRoom m f → (m < 64) × (f ≡ None)
@@ -97,3 +105,14 @@ room-had m f h =
       | inl l ↦ (l, no-fault f (h ∙ cond-true (ltb m 64) _ _ (lt-ltb m 64 l)))
       | inr l ↦ let w : _≡_ {A = Result (Unit {0}) Notice} (Ok tt) (Err (plain 7)) = h ∙ cond-false (ltb m 64) _ _ (le-ltb m 64 l) in let z : _≡_ {A = ℕ} 0 1 = cc in absurd (omega arith)
     ]
+
+-- What an answer to staging says, where the mailbox and the lot are there.
+module _ (m : ℕ) (l : Option (List Entry)) (f : Option RoomFault) (es : List Entry) (there : m < 64) (begun : l ≡ Some es) where
+  stages-by : stages m l f ≡ unlessFault f
+  stages-by = cond-true (ltb m 64) (stagesInto l f) (Err (plain 7)) (lt-ltb _ _ there) ∙ ap (λ v. stagesInto v f) begun
+
+  pub staged-room : Ok tt ≡ stages m l f → f ≡ None
+  staged-room h = no-fault f (h ∙ stages-by)
+
+  pub staged-fault : (n : Notice) → Err n ≡ stages m l f → (x : RoomFault) × ((f ≡ Some x) × (n ≡ noRoom x))
+  staged-fault n h = some-fault f n (h ∙ stages-by)

@@ -9,7 +9,7 @@ use Rattle.std.specs.declared.option.Option.{Option}
 use Rattle.std.specs.declared.option.Option.the-variants.{Some, None}
 use Rattle.std.specs.declared.result.Result.{Result}
 use Rattle.std.specs.declared.result.Result.the-variants.{Ok, Err}
-use Rattle.spool.specs.Refusals.{Notice, plain}
+use Rattle.refusals.specs.Refusals.{Notice, plain}
 use Rattle.spool.specs.declared.list.OrderedList.{OrderedList}
 
 -- The records of a list that is kept in a memory.

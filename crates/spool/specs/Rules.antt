@@ -13,9 +13,9 @@ use Rattle.std.specs.declared.result.Result.{Result}
 use Rattle.std.specs.declared.result.Result.the-variants.{Ok, Err}
 use Rattle.spool.specs.Entries.{Entry}
 use Rattle.spool.specs.Lists.{present}
-use Rattle.spool.specs.Refusals.{Notice, plain, noRoom}
+use Rattle.refusals.specs.Refusals.{Notice, plain, noRoom}
 use Rattle.spool.specs.declared.entry.Summary.{Summary}
-use Rattle.spool.specs.declared.refusal.RoomFault.{RoomFault}
+use Rattle.refusals.specs.declared.refusal.RoomFault.{RoomFault}
 
 -- A lot is none, or the entries staged in it. Without a lot nothing is staged.
 abbrev pub staged : Option (List Entry) → List Entry

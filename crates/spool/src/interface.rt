@@ -1,8 +1,8 @@
 ghost use Prim.Native.Nat.{ℕ, _<_, _≤_};
 ghost use Rattle.spool.specs.Entries.{Entry};
-ghost use Rattle.spool.specs.Refusals.{told};
+ghost use Rattle.refusals.specs.Refusals.{told};
 ghost use Rattle.spool.specs.Rules.{asksRoom, copied, copies, extended, opened, opens, remains, removes, staged, stages, tells};
-ghost use Rattle.spool.specs.declared.refusal.RoomFault.{RoomFault};
+ghost use Rattle.refusals.specs.declared.refusal.RoomFault.{RoomFault};
 ghost use Rattle.std.specs.Finite.{nth};
 ghost use Rattle.std.specs.Options.{isSome};
 ghost use Rattle.std.specs.Results.{isOk};
@@ -13,7 +13,7 @@ ghost use mathlib.Core.Bool.{false};
 ghost use mathlib.Core.List.{List, [], _++_};
 ghost use mathlib.Core.Path.{_≡_};
 use crate::entry::Summary;
-use crate::refusal::Refusal;
+use refusals::refusal::Refusal;
 
 // A store of entries, each a mailbox and a payload. New entries are staged in a lot, which is committed or withdrawn whole.
 pub trait Spool {

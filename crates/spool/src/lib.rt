@@ -1,6 +1,5 @@
-// What every layer of the receiver shares: the refusals of its calls, the ordered list, the spool interface and the ticket.
+// What every layer of the receiver shares: the ordered list, the spool interface and the ticket.
 pub mod entry;
 pub mod interface;
 pub mod list;
-pub mod refusal;
 pub mod ticket;

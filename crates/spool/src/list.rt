@@ -1,13 +1,13 @@
 ghost use Prim.Native.Nat.{ℕ, _+_, _-_, _<_, _≤_, min};
 ghost use Rattle.spool.specs.Lists.{appended, appends, present, records as recordsOf, remaining, removes};
-ghost use Rattle.spool.specs.Refusals.{told};
+ghost use Rattle.refusals.specs.Refusals.{told};
 ghost use Rattle.std.specs.Finite.{nth};
 ghost use Rattle.std.specs.Results.{isOk};
 ghost use lib.ListN.{drop, getD, length, take};
 ghost use mathlib.Core.Bool.{false, true};
 ghost use mathlib.Core.List.{[], _∷_, _++_};
 ghost use mathlib.Core.Path.{_≡_};
-use crate::refusal::Refusal;
+use refusals::refusal::Refusal;
 
 // An ordered list of records of any one kind, at the front of a memory that each call is handed: it holds how many there are.
 #[derive(Clone, Copy)]
@@ -27,7 +27,7 @@ impl OrderedList {
     pub fn len<T: Copy>(&self, memory: &[T]) -> usize
         ensures { λ r. ⌜ r ≡ length (recordsOf (now (self .entry)) (now (memory .entry))) ⌝ }
     {
-        self.count.min(memory.len())
+        memory.len().min(self.count)
     }
 
     // The record at a place.

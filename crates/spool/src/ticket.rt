@@ -1,5 +1,5 @@
 ghost use Prim.Native.Nat.{ℕ};
-ghost use Rattle.spool.specs.Refusals.{plain, told, notice};
+ghost use Rattle.refusals.specs.Refusals.{plain, told, notice};
 ghost use Rattle.spool.specs.Rules.{extended, opened, staged, stages};
 ghost use Rattle.std.specs.Options.{isSome};
 ghost use Rattle.std.specs.Results.{Cases, isOk};
@@ -9,7 +9,7 @@ ghost use mathlib.Core.Bool.{false, true};
 ghost use mathlib.Core.List.{_++_};
 ghost use mathlib.Core.Path.{_≡_};
 use crate::interface::Spool;
-use crate::refusal::Refusal;
+use refusals::refusal::Refusal;
 
 // The right to end the lot that was opened with it. It can only be had by opening a lot, and has to be spent: it is neither
 // `Copy` nor `Drop`, and its one field is private.

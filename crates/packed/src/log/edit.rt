@@ -1,7 +1,7 @@
 ghost use Prim.Native.Nat.{ℕ, _+_, _<_, _≤_};
 ghost use Rattle.packed.specs.Meaning.{LawfulLog, floorOf, heldOf, lotOf, roomOf};
 ghost use Rattle.packed.specs.Packing.{lowered, total};
-ghost use Rattle.spool.specs.Refusals.{notice, plain};
+ghost use Rattle.refusals.specs.Refusals.{notice, plain};
 ghost use Rattle.std.specs.Of.Vec.{vec-items, vec-len};
 ghost use Rattle.std.specs.Results.{Cases};
 ghost use Rattle.std.specs.declared.option.Option.the-variants.{None};
@@ -10,12 +10,12 @@ ghost use mathlib.Core.List.{[], _++_};
 ghost use mathlib.Core.Path.{_≡_};
 use super::PackedLog;
 use crate::row::LogRow;
+use refusals::refusal::Refusal;
+use refusals::refusal::Rejected;
+use refusals::refusal::RoomFault;
 use spool::entry::Summary;
 use spool::interface::Spool;
 use spool::list::OrderedList;
-use spool::refusal::Refusal;
-use spool::refusal::Rejected;
-use spool::refusal::RoomFault;
 
 // An empty log over 512 to 65,536 octets and 1 to 256 rows; refused, and the memory handed back, where it has more or less.
 pub fn build(
@@ -101,10 +101,10 @@ pub impl Spool for PackedLog as PackedLogSpool {
         if at >= self.filed {
             return Err(Refusal::NoSuchEntry);
         }
-        let row = self.rows[at];
+        let held = self.rows[at];
         Ok(Summary {
-            mailbox: row.mailbox,
-            length: row.length,
+            mailbox: held.mailbox,
+            length: held.length,
         })
     }
 

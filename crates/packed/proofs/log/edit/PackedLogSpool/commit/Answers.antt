@@ -8,7 +8,7 @@ use Rattle.std.proofs.shelf.Lists.{take-all, take-append-drop}
 use Rattle.std.proofs.shelf.Tests.{cond-true}
 use Rattle.packed.specs.Meaning.{entriesOf, heldOf, lotOf}
 use Rattle.packed.proofs.Logs.{entries-length, staged-is, staged-length}
-use Rattle.packed.proofs.Places.{none-some}
+use Rattle.spool.proofs.Places.{none-some}
 use Rattle.packed.proofs.log.edit.PackedLogSpool.commit.Needs as need
 
 pub add-self : need.add-self

@@ -11,5 +11,5 @@ pub returns : need.returns
 returns c =
     let s = c .args .self .now in
     let at = c .args .at in
-    let r = c .index-row .result .now in
-    row-told s (heldOf s) at at r (known s at r (omega (arith, s .filedFit)) (c .index-row .ensures)) (held-nth s at (c .if-at-self .left))
+    let r = c .index-held .result .now in
+    row-told s (heldOf s) at at r (known s at r (omega (arith, s .filedFit)) (c .index-held .ensures)) (held-nth s at (c .if-at-self .left))

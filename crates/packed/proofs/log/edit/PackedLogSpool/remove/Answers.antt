@@ -16,7 +16,7 @@ use Rattle.packed.specs.Meaning.{entriesOf, heldOf, lotOf}
 use Rattle.packed.specs.declared.row.LogRow.{LogRow}
 use Rattle.packed.proofs.Cuts.{entryAt}
 use Rattle.packed.proofs.Logs.{entries-length, held-length, held-nth, known, room-of}
-use Rattle.packed.proofs.Places.{same-some, nth-within}
+use Rattle.spool.proofs.Places.{same-some, nth-within}
 use Rattle.packed.proofs.Steps.{high-enough, removing, rows-out, octets-out}
 use Rattle.packed.proofs.log.edit.PackedLogSpool.remove.Needs as need
 

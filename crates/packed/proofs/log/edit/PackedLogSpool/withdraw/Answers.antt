@@ -11,7 +11,7 @@ use Rattle.packed.specs.Packing.{cut, total, offsets, starts}
 use Rattle.packed.specs.declared.row.LogRow.{LogRow}
 use Rattle.packed.proofs.Cuts.{gapless-take, total-take, length-cut}
 use Rattle.packed.proofs.Logs.{rowsOf, held-rows, held-length}
-use Rattle.packed.proofs.Places.{none-some}
+use Rattle.spool.proofs.Places.{none-some}
 use Rattle.packed.proofs.log.edit.PackedLogSpool.withdraw.Needs as need
 
 pub ghost-self : need.ghost-self

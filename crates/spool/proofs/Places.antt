@@ -2,8 +2,7 @@
 use mathlib.Core.Path.{_≡_, refl, sym, ap, _∙_}
 use mathlib.Core.List.{List, [], _∷_, _++_}
 use Prim.Native.Nat.{ℕ, zero, suc, _+_, _≤_, _<_}
-use native.Mathlib.Nat.{add-zero, zero-add}
-use native.Mathlib.Numerals.{add-one}
+use native.Mathlib.Nat.{zero-add}
 use native.Mathlib.Omega.{arith}
 use lib.ListN.{length, take, drop}
 use Rattle.std.specs.Finite.{nth}
@@ -43,3 +42,13 @@ split-at (y ∷ xs) (suc at) x h = ap (λ v. y ∷ v) (split-at xs at x h)
 pub removed-at : {X : Type 0} (xs : List X) (y : X) (ys : List X) → removed (xs ++ y ∷ ys) (length xs) ≡ xs ++ ys
 removed-at [] y ys = refl
 removed-at (x ∷ xs) y ys = ap (λ v. x ∷ v) (removed-at xs y ys)
+
+pub drop-nth : {X : Type 0} (xs : List X) (at : ℕ) (x : X) → nth xs at ≡ Some x → drop at xs ≡ x ∷ drop (suc at) xs
+drop-nth [] at x h = none-some x _ h
+drop-nth (y ∷ xs) zero x h = ap (λ v. v ∷ xs) (same-some y x h)
+drop-nth (y ∷ xs) (suc at) x h = drop-nth xs at x h
+
+pub take-nth : {X : Type 0} (xs : List X) (at : ℕ) (x : X) → nth xs at ≡ Some x → take (suc at) xs ≡ take at xs ++ x ∷ []
+take-nth [] at x h = none-some x _ h
+take-nth (y ∷ xs) zero x h = ap (λ v. v ∷ []) (same-some y x h)
+take-nth (y ∷ xs) (suc at) x h = ap (λ v. y ∷ v) (take-nth xs at x h)

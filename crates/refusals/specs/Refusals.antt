@@ -3,9 +3,9 @@ use Prim.Native.Nat.{ℕ}
 use mathlib.Core.List.{List, [], _∷_}
 use Rattle.std.specs.declared.result.Result.{Result}
 use Rattle.std.specs.declared.result.Result.the-variants.{Ok, Err}
-use Rattle.spool.specs.declared.refusal.RoomFault.{RoomFault}
-use Rattle.spool.specs.declared.refusal.Refusal.{Refusal}
-use Rattle.spool.specs.declared.refusal.Refusal.the-variants.{NoSuchSession, AlreadyOpen, NotOpen, BadArea, BadSheet, ShortOutput, NoSuchMailbox, NothingHeld, ShortBuffer, LotOpen, NoLot, NoRoom, NoSuchEntry, Unlawful, BadRow, BadRowMailbox}
+use Rattle.refusals.specs.declared.refusal.RoomFault.{RoomFault}
+use Rattle.refusals.specs.declared.refusal.Refusal.{Refusal}
+use Rattle.refusals.specs.declared.refusal.Refusal.the-variants.{NoSuchSession, AlreadyOpen, NotOpen, BadArea, BadSheet, ShortOutput, NoSuchMailbox, NothingHeld, ShortBuffer, LotOpen, NoLot, NoRoom, NoSuchEntry, Unlawful, BadRow, BadRowMailbox}
 
 pub record Notice : Type 0 where
   pub number : ℕ

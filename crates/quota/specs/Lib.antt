@@ -1,0 +1,2 @@
+pub mod Quotas
+pub mod Shares

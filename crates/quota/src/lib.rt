@@ -1,0 +1,4 @@
+// A quota for each mailbox, as a spool over any spool.
+pub mod layer;
+mod limits;
+mod tally;

@@ -1,2 +1,0 @@
-pub dummy : Unit {0}
-dummy = tt
