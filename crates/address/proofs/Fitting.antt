@@ -16,8 +16,8 @@ use Rattle.std.proofs.shelf.Equals.{sameBytes-decides}
 use Rattle.std.proofs.shelf.Lists.{take-rest, take-append-drop, drop-more}
 use Rattle.std.proofs.shelf.Tests.{cond-both}
 use Rattle.std.proofs.shelf.Ways.{same-from-decides, decides-and, decides-or}
-use Rattle.address.specs.Comparison.{SameDomain, SameLocal}
-use Rattle.address.specs.Rows.{beforeAt, behindAt, domainStart, octetsOf, sameDomain, sameLocal, postmaster, fitsRow, firstFit}
+use Rattle.address.specs.Comparison.{SameDomain, SameLocal, sameDomain, sameLocal, postmaster}
+use Rattle.address.specs.Rows.{beforeAt, behindAt, domainStart, octetsOf, fitsRow, firstFit}
 use Rattle.address.specs.declared.row.DirectoryRow.{DirectoryRow}
 use Rattle.address.specs.declared.row.RowKind.{RowKind}
 

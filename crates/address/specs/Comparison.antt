@@ -19,3 +19,13 @@ IsPostmaster xs = map lower xs ≡ codes "postmaster"
 -- Local parts are the same as written, quote marks counted, or where both are postmaster.
 abbrev pub SameLocal : List ℕ → List ℕ → Type 0
 SameLocal xs ys = (xs ≡ ys) ⊎ (IsPostmaster xs × IsPostmaster ys)
+
+-- The same, as tests.
+abbrev pub sameDomain : List ℕ → List ℕ → Bool
+sameDomain xs ys = sameBytes (map lower xs) (map lower ys)
+
+abbrev pub postmaster : List ℕ → Bool
+postmaster xs = sameBytes (map lower xs) (codes "postmaster")
+
+abbrev pub sameLocal : List ℕ → List ℕ → Bool
+sameLocal xs ys = sameBytes xs ys || (postmaster xs && postmaster ys)

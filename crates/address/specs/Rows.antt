@@ -1,18 +1,16 @@
 -- Directories that are a text with rows: each row stands for octets of the text and for a mailbox.
 use Prim.Native.Nat.{ℕ, _+_, _-_, _<_, _≤_}
-use lib.Chars.{codes}
 use lib.Dec.{eqb}
 use lib.ListN.{length, take, drop}
-use mathlib.Core.Bool.{Bool, not, cond, _&&_, _||_}
-use mathlib.Core.List.{List, [], _∷_, _++_, map}
+use mathlib.Core.Bool.{Bool, not, cond, _&&_}
+use mathlib.Core.List.{List, [], _∷_, _++_}
 use mathlib.Core.Logic.{_⊎_}
 use mathlib.Core.Path.{_≡_}
-use Rattle.std.specs.Text.{lower}
 use Rattle.std.specs.declared.option.Option.{Option}
 use Rattle.std.specs.declared.option.Option.the-variants.{Some, None}
 use Rattle.std.specs.shelf.Lists.{All, ending}
-use Rattle.std.specs.shelf.Text.{sameBytes}
 use Rattle.refusals.specs.Refusals.{Notice, plain}
+use Rattle.address.specs.Comparison.{sameDomain, sameLocal}
 use Rattle.address.specs.Parts.{IsLocal, IsDomain}
 use Rattle.address.specs.declared.row.DirectoryRow.{DirectoryRow}
 use Rattle.address.specs.declared.row.RowKind.{RowKind}
@@ -74,16 +72,7 @@ Refused kind text rows notice =
     ⊎ (((notice ≡ plain 15) × Limits text rows × (GoodRows kind text rows → ⊥))
     ⊎ ((notice ≡ plain 16) × Limits text rows × GoodRows kind text rows × (GoodMailboxes rows → ⊥)))
 
--- Whether a local part and a domain are those of a row, as tests.
-abbrev pub sameDomain : List ℕ → List ℕ → Bool
-sameDomain xs ys = sameBytes (map lower xs) (map lower ys)
-
-abbrev pub postmaster : List ℕ → Bool
-postmaster xs = sameBytes (map lower xs) (codes "postmaster")
-
-abbrev pub sameLocal : List ℕ → List ℕ → Bool
-sameLocal xs ys = sameBytes xs ys || (postmaster xs && postmaster ys)
-
+-- Whether a local part and a domain are those of a row.
 abbrev pub fitsRow : RowKind → List ℕ → List ℕ → List ℕ → Bool
 fitsRow Addresses row local domain = sameLocal (beforeAt row) local && sameDomain (behindAt row) domain
 fitsRow Domains row local domain = sameDomain row domain

@@ -1,3 +1,4 @@
+ghost use Prim.Native.Nat.{ℕ, _<_};
 ghost use Rattle.address.specs.Classes.{classesOf, member, weightOf};
 ghost use mathlib.Core.Path.{_≡_};
 
@@ -274,11 +275,12 @@ const CLASSES: [u8; 256] = [
     0,
 ];
 
-// The sum of an octet's classes.
-pub fn classes(octet: u8) -> u8
-    ensures { λ r. ⌜ r ≡ classesOf octet ⌝ }
+// The table's entry for an octet.
+fn entry(at: usize) -> u8
+    requires { ⌜ at < 256 ⌝ }
+    ensures { λ r. ⌜ r ≡ classesOf at ⌝ }
 {
-    CLASSES[octet as usize]
+    CLASSES[at]
 }
 
 // The number that stands for a class in the table.
@@ -293,9 +295,23 @@ fn weight(class: Class) -> u8
     }
 }
 
+// Whether a sum of classes has a class in it.
+fn has(sum: u8, class: Class) -> bool
+    ensures { λ r. ⌜ ((octet : ℕ) → sum ≡ classesOf octet → r ≡ member class octet) ⌝ }
+{
+    sum & weight(class) != 0
+}
+
+// The sum of an octet's classes.
+pub fn classes(octet: u8) -> u8
+    ensures { λ r. ⌜ r ≡ classesOf octet ⌝ }
+{
+    entry(octet as usize)
+}
+
 // Whether an octet is in a class.
 pub fn is_in(octet: u8, class: Class) -> bool
     ensures { λ r. ⌜ r ≡ member class octet ⌝ }
 {
-    classes(octet) & weight(class) != 0
+    has(classes(octet), class)
 }

@@ -4,6 +4,7 @@ ghost use Rattle.address.specs.Parts.{DomainAt, IsDomain, IsLocal, LocalAt, Lo
 ghost use Rattle.address.specs.Quotes.{BareOrEscaped};
 ghost use Rattle.std.specs.Options.{Cases};
 ghost use Rattle.std.specs.Orderings.{Decides};
+ghost use lib.Dec.{eqb};
 ghost use lib.ListN.{getD, length, take};
 ghost use mathlib.Core.Path.{_≡_};
 use crate::classes::Class;
@@ -79,12 +80,19 @@ pub fn domain(s: &[u8]) -> Option<usize>
     }
 }
 
+// Whether the first octets, so many, are all of them.
+fn is_all(n: usize, s: &[u8]) -> bool
+    ensures { λ r. ⌜ r ≡ eqb n (length (now (s .entry))) ⌝ }
+{
+    n == s.len()
+}
+
 // Whether octets are a local part.
-pub fn is_local_part(s: &[u8]) -> bool
+pub(crate) fn is_local_part(s: &[u8]) -> bool
     ensures { λ r. ⌜ Decides r (IsLocal (now (s .entry))) ⌝ }
 {
     match local_part(s) {
-        Some(n) => n == s.len(),
+        Some(n) => is_all(n, s),
         None => false,
     }
 }
@@ -94,7 +102,7 @@ pub fn is_domain(s: &[u8]) -> bool
     ensures { λ r. ⌜ Decides r (IsDomain (now (s .entry))) ⌝ }
 {
     match domain(s) {
-        Some(n) => n == s.len(),
+        Some(n) => is_all(n, s),
         None => false,
     }
 }

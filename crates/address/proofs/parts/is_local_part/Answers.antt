@@ -1,4 +1,4 @@
-use mathlib.Core.Path.{sym}
+use mathlib.Core.Path.{sym, _∙_}
 use lib.ListN.{length}
 use Rattle.std.proofs.shelf.Tests.{false≢true, eqb-true, eq-eqb}
 use Rattle.address.proofs.Fronts.{local-whole, whole-local}
@@ -9,8 +9,13 @@ returns-in-Some c =
     let s = c .args .s .now in
     let n = c .in-Some .n in
     let d = c .in-Some .ensures tt in (
+<<<<<<< HEAD
       λ e. whole-local s n (d .holds) (eqb-true n (length s) e),
       λ h. eq-eqb n (length s) (sym (d .alone (length s) (local-whole s h))),
+=======
+      λ e. whole-local s n (d .holds) (eqb-true n (length s) (sym (c .is-all .ensures) ∙ e)),
+      λ h. c .is-all .ensures ∙ eq-eqb n (length s) (sym (d .alone (length s) (local-whole s h))),
+>>>>>>> address
     )
 
 pub returns-in-None : need.returns-in-None

@@ -1,7 +1,8 @@
 use mathlib.Core.Bool.{true, false, _&&_}
 use mathlib.Core.Path.{_≡_, sym, ap, _∙_}
 use Rattle.std.proofs.shelf.Tests.{and-left}
-use Rattle.address.specs.Rows.{beforeAt, behindAt, sameDomain, sameLocal}
+use Rattle.address.specs.Comparison.{sameDomain, sameLocal}
+use Rattle.address.specs.Rows.{beforeAt, behindAt}
 use Rattle.address.proofs.Fitting.{same-domain-is, same-local-is}
 use Rattle.address.proofs.spelling.fits_address.Needs as need
 

@@ -6,7 +6,7 @@ use Prim.Native.Nat.{ℕ, _+_}
 use Rattle.address.specs.Classes.{atext, qtext, letDig, printable, classesOf, member, weightOf}
 use Rattle.address.specs.declared.classes.Class.{Class}
 use Rattle.address.specs.declared.classes.Class.the-variants.{Atext, Qtext, LetDig, Printable}
-use Rattle.address.proofs.classes.is_in.Needs as need
+use Rattle.address.proofs.classes.has.Needs as need
 
 -- The four numbers, added up or left out, stay apart in the sum.
 sumOf : Bool → Bool → Bool → Bool → ℕ
@@ -45,8 +45,8 @@ picked x Printable = refl
 
 pub returns : need.returns
 unfolding sumOf
-returns c =
-    ap (λ n. not (eqb (bitAnd n (c .weight .result)) 0)) (c .classes .ensures)
-    ∙ ap (λ n. not (eqb (bitAnd (classesOf (c .args .octet)) n) 0)) (c .weight .ensures)
-    ∙ apart (atext (c .args .octet)) (qtext (c .args .octet)) (letDig (c .args .octet)) (printable (c .args .octet)) (c .args .class)
-    ∙ picked (c .args .octet) (c .args .class)
+returns c octet e =
+    ap (λ n. not (eqb (bitAnd n (c .weight .result)) 0)) e
+    ∙ ap (λ n. not (eqb (bitAnd (classesOf octet) n) 0)) (c .weight .ensures)
+    ∙ apart (atext octet) (qtext octet) (letDig octet) (printable octet) (c .args .class)
+    ∙ picked octet (c .args .class)
