@@ -1,13 +1,5 @@
-pub mod address_list;
+// Local parts and domains: octet classes, the words between dots, and comparison.
 pub mod classes;
 pub mod comparison;
-pub mod directory;
-pub mod domain_list;
-pub mod envelope;
-pub mod examples;
-mod listing;
 pub mod parts;
-pub mod path;
-pub mod row;
-mod spelling;
-mod words;
+pub mod words;

@@ -88,7 +88,7 @@ fn is_all(n: usize, s: &[u8]) -> bool
 }
 
 // Whether octets are a local part.
-pub(crate) fn is_local_part(s: &[u8]) -> bool
+pub fn is_local_part(s: &[u8]) -> bool
     ensures { λ r. ⌜ Decides r (IsLocal (now (s .entry))) ⌝ }
 {
     match local_part(s) {

@@ -11,7 +11,7 @@ use crate::classes::is_in;
 
 // What stands between the dots: atoms in a local part, labels in a domain.
 #[derive(Clone, Copy)]
-pub(crate) enum Word {
+pub enum Word {
     Atom,
     Label,
 }

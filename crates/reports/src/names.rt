@@ -1,13 +1,13 @@
 // The directory that an argument names: `addresses:FILE` or `domains:FILE`, and the mailbox that a path leads to.
 use crate::lines::cut_last;
 use crate::lines::number;
-use address::directory::Directory;
-use address::envelope::ForwardPath;
-use address::envelope::domain_of;
-use address::envelope::forward_path;
-use address::envelope::local_part_of;
-use address::path::fault_number;
-use address::row::DirectoryRow;
+use directory::directory::Directory;
+use directory::row::DirectoryRow;
+use paths::envelope::ForwardPath;
+use paths::envelope::domain_of;
+use paths::envelope::forward_path;
+use paths::envelope::local_part_of;
+use paths::path::fault_number;
 use std::alloc::AllocError;
 use std::alloc::Global;
 

@@ -9,13 +9,8 @@ returns-in-Some c =
     let s = c .args .s .now in
     let n = c .in-Some .n in
     let d = c .in-Some .ensures tt in (
-<<<<<<< HEAD
-      λ e. whole-local s n (d .holds) (eqb-true n (length s) e),
-      λ h. eq-eqb n (length s) (sym (d .alone (length s) (local-whole s h))),
-=======
       λ e. whole-local s n (d .holds) (eqb-true n (length s) (sym (c .is-all .ensures) ∙ e)),
       λ h. c .is-all .ensures ∙ eq-eqb n (length s) (sym (d .alone (length s) (local-whole s h))),
->>>>>>> address
     )
 
 pub returns-in-None : need.returns-in-None

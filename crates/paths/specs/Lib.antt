@@ -1,0 +1,3 @@
+pub mod Envelopes
+pub mod Examples
+pub mod Paths
