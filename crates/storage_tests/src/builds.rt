@@ -1,11 +1,35 @@
-// The limits of a build, at both edges.
-use crate::stands::layer;
-use crate::stands::log;
-use crate::stands::store;
+// The limits of a build, at both edges. A refused build says 14, and hands back what it was handed.
+use crate::stands::lawful;
+use crate::stands::log_over;
+use crate::stands::store_over;
 use filing::single::file;
 use packed::log::edit::PackedLogSpool;
+use quota::layer::Quota;
+use refusals::refusal::Rejected;
 use spool::interface::Spool;
 use std::test::*;
+
+fn gives_memory_back<S: Drop, T: Drop>(
+    built: Result<S, Rejected<(Vec<u8>, Vec<T>)>>,
+    octets: usize,
+    rows: usize,
+) -> bool {
+    let Err(rejected) = built else {
+        return false;
+    };
+    let number = rejected.refusal.number();
+    number == 14 && rejected.given.0.len() == octets && rejected.given.1.len() == rows
+}
+
+fn gives_spool_back<S: Spool + Drop>(below: S, entries: usize, octets: usize) -> bool {
+    let count = below.count();
+    let is_open = below.lot_is_open();
+    let Err(rejected) = Quota::build(below, entries, octets) else {
+        return false;
+    };
+    let number = rejected.refusal.number();
+    number == 14 && rejected.given.count() == count && rejected.given.lot_is_open() == is_open
+}
 
 #[test]
 fn of_a_log(rt: LibcRuntime) -> Result<(), Fail> {
@@ -18,7 +42,8 @@ fn of_a_log(rt: LibcRuntime) -> Result<(), Fail> {
         (512, 257, false),
     ];
     for (octets, rows, stands) in cases {
-        check(log(rt.alloc(), octets, rows)?.is_some() == stands)?;
+        let built = log_over(rt.alloc(), octets, rows)?;
+        check(gives_memory_back(built, octets, rows) != stands)?;
     }
     Ok(())
 }
@@ -39,7 +64,8 @@ fn of_a_slot_store(rt: LibcRuntime) -> Result<(), Fail> {
         (1025, 2, false),
     ];
     for (octets, rows, stands) in cases {
-        check(store(rt.alloc(), octets, rows)?.is_some() == stands)?;
+        let built = store_over(rt.alloc(), octets, rows)?;
+        check(gives_memory_back(built, octets, rows) != stands)?;
     }
     Ok(())
 }
@@ -55,18 +81,18 @@ fn of_a_quota(rt: LibcRuntime) -> Result<(), Fail> {
         (1, 65537, false),
     ];
     for (entries, octets, stands) in cases {
-        let below = log(rt.alloc(), 512, 1)?.ok_or("unlawful")?;
-        check(layer(below, entries, octets)?.is_some() == stands)?;
+        let below = lawful(log_over(rt.alloc(), 512, 1)?)?;
+        check(gives_spool_back(below, entries, octets) != stands)?;
     }
     Ok(())
 }
 
 #[test]
 fn of_a_quota_over_a_spool_in_use(rt: LibcRuntime) -> Result<(), Fail> {
-    let mut held = log(rt.alloc(), 512, 1)?.ok_or("unlawful")?;
-    check(file(&mut held, 3, b"text").is_ok())?;
-    check(layer(held, 1, 512)?.is_none())?;
-    let mut open = log(rt.alloc(), 512, 1)?.ok_or("unlawful")?;
-    check(open.open_lot().is_ok())?;
-    check(layer(open, 1, 512)?.is_none())
+    let mut used = lawful(log_over(rt.alloc(), 512, 1)?)?;
+    let _ = file(&mut used, 3, b"text");
+    check(gives_spool_back(used, 1, 512))?;
+    let mut open = lawful(log_over(rt.alloc(), 512, 1)?)?;
+    let _ = open.open_lot();
+    check(gives_spool_back(open, 1, 512))
 }

@@ -1,54 +1,66 @@
 // Why there is no room: the cause, and how many layers down it lies.
-use crate::stands::layer;
-use crate::stands::log;
-use crate::stands::no_room;
-use crate::stands::store;
+use crate::stands::fault;
+use crate::stands::lawful;
+use crate::stands::log_over;
+use crate::stands::store_over;
 use filing::single::file;
 use packed::log::edit::PackedLogSpool;
+use quota::layer::Quota;
 use quota::layer::QuotaSpool;
 use slots::store::filing::SlotSpool;
 use spool::interface::Spool;
 use std::test::*;
 
+// Over one free slot of 512 octets: room for one entry of mailbox 3 in a lot, and for no second.
+fn one_slot<S: Spool>(spool: &mut S) -> [(u8, u8, u8); 4] {
+    let _ = spool.open_lot();
+    [
+        fault(spool.room(3, 513)),
+        fault(spool.room(3, 512)),
+        fault(spool.stage(3, b"text")),
+        fault(spool.stage(3, b"text")),
+    ]
+}
+
 #[test]
 fn in_one_free_slot_for_a_mailbox_twice(rt: LibcRuntime) -> Result<(), Fail> {
-    let mut slots = store(rt.alloc(), 512, 1)?.ok_or("unlawful")?;
-    check(slots.open_lot().is_ok())?;
-    check(slots.stage(3, b"text").is_ok())?;
-    no_room(slots.stage(3, b"text"), 0, 2)?;
-    no_room(slots.room(3, 513), 0, 1)
-}
-
-#[test]
-fn in_a_log(rt: LibcRuntime) -> Result<(), Fail> {
-    let mut log = log(rt.alloc(), 512, 2)?.ok_or("unlawful")?;
-    no_room(log.room(3, 513), 0, 3)?;
-    check(file(&mut log, 3, b"text").is_ok())?;
-    no_room(log.room(3, 509), 0, 3)?;
-    check(log.room(3, 508).is_ok())?;
-    check(file(&mut log, 4, b"").is_ok())?;
-    no_room(file(&mut log, 3, b""), 0, 4)
-}
-
-#[test]
-fn in_a_quota(rt: LibcRuntime) -> Result<(), Fail> {
-    let below = log(rt.alloc(), 65536, 4)?.ok_or("unlawful")?;
-    let mut quota = layer(below, 2, 512)?.ok_or("unlawful")?;
-    check(file(&mut quota, 3, b"text").is_ok())?;
-    no_room(quota.room(3, 509), 0, 6)?;
-    check(quota.room(3, 508).is_ok() && quota.room(4, 512).is_ok())?;
-    check(file(&mut quota, 3, b"").is_ok())?;
-    no_room(file(&mut quota, 3, b""), 0, 5)
+    let mut slots = lawful(store_over(rt.alloc(), 512, 1)?)?;
+    let answers = one_slot(&mut slots);
+    check_eq(answers, [(12, 0, 1), (0, 0, 0), (0, 0, 0), (12, 0, 2)])
 }
 
 #[test]
 fn three_layers_down(rt: LibcRuntime) -> Result<(), Fail> {
-    let below = store(rt.alloc(), 512, 1)?.ok_or("unlawful")?;
-    let first = layer(below, 5, 65536)?.ok_or("unlawful")?;
-    let second = layer(first, 5, 1024)?.ok_or("unlawful")?;
-    let mut third = layer(second, 5, 65536)?.ok_or("unlawful")?;
-    no_room(third.room(3, 1025), 1, 6)?;
-    no_room(third.room(3, 513), 3, 1)?;
-    check(file(&mut third, 3, b"text").is_ok())?;
-    no_room(file(&mut third, 3, b"text"), 3, 2)
+    let slots = lawful(store_over(rt.alloc(), 512, 1)?)?;
+    let first = lawful(Quota::build(slots, 2, 65536))?;
+    let second = lawful(Quota::build(first, 2, 65536))?;
+    let mut third = lawful(Quota::build(second, 2, 65536))?;
+    let answers = one_slot(&mut third);
+    check_eq(answers, [(12, 3, 1), (0, 0, 0), (0, 0, 0), (12, 3, 2)])
+}
+
+// Over room for 512 octets in two entries of mailbox 3: too many octets, and then too many entries.
+fn two_entries<S: Spool>(spool: &mut S) -> [(u8, u8, u8); 5] {
+    [
+        fault(file(spool, 3, b"text")),
+        fault(spool.room(3, 509)),
+        fault(spool.room(3, 508)),
+        fault(file(spool, 3, b"")),
+        fault(file(spool, 3, b"")),
+    ]
+}
+
+#[test]
+fn in_a_log(rt: LibcRuntime) -> Result<(), Fail> {
+    let mut log = lawful(log_over(rt.alloc(), 512, 2)?)?;
+    let answers = two_entries(&mut log);
+    check_eq(answers, [(0, 0, 0), (12, 0, 3), (0, 0, 0), (0, 0, 0), (12, 0, 4)])
+}
+
+#[test]
+fn in_a_quota(rt: LibcRuntime) -> Result<(), Fail> {
+    let log = lawful(log_over(rt.alloc(), 65536, 256)?)?;
+    let mut quota = lawful(Quota::build(log, 2, 512))?;
+    let answers = two_entries(&mut quota);
+    check_eq(answers, [(0, 0, 0), (12, 0, 6), (0, 0, 0), (0, 0, 0), (12, 0, 5)])
 }

@@ -1,91 +1,69 @@
-// What the tests share: stores of a given memory, and what a call answers.
+// What the tests share: stores over so much memory, and what calls answer.
 use packed::log::PackedLog;
-use packed::log::edit::PackedLogSpool;
 use packed::row::LogRow;
-use quota::layer::Quota;
 use refusals::refusal::Refusal;
+use refusals::refusal::Rejected;
 use slots::row::SlotRow;
 use slots::store::SlotStore;
-use slots::store::filing::SlotSpool;
 use spool::interface::Spool;
+use std::alloc::AllocError;
 use std::alloc::Global;
 use std::test::*;
 
-// A log over so many octets and rows; none where it is refused as unlawful and the memory handed back.
-pub(crate) fn log(heap: Global, octets: usize, rows: usize) -> Result<Option<PackedLog>, Fail> {
+// What the build of a log over so many octets and rows gives.
+pub(crate) fn log_over(
+    heap: Global,
+    octets: usize,
+    rows: usize,
+) -> Result<Result<PackedLog, Rejected<(Vec<u8>, Vec<LogRow>)>>, AllocError> {
     let row = LogRow {
         offset: 0,
         length: 0,
         mailbox: 0,
     };
-    match packed::log::edit::build(vec![in heap; 7; octets]?, vec![in heap; row; rows]?) {
-        Ok(log) => {
-            check(log.floor() == octets && log.count() == 0)?;
-            Ok(Some(log))
-        }
-        Err(rejected) => {
-            check(rejected.refusal.number() == 14)?;
-            check(rejected.given.0.len() == octets && rejected.given.1.len() == rows)?;
-            Ok(None)
-        }
-    }
+    let octets = vec![in heap; 7; octets]?;
+    let rows = vec![in heap; row; rows]?;
+    Ok(packed::log::edit::build(octets, rows))
 }
 
-// A slot store over so many octets and rows; none where it is refused as unlawful and the memory handed back.
-pub(crate) fn store(heap: Global, octets: usize, rows: usize) -> Result<Option<SlotStore>, Fail> {
+// What the build of a slot store over so many octets and rows gives.
+pub(crate) fn store_over(
+    heap: Global,
+    octets: usize,
+    rows: usize,
+) -> Result<Result<SlotStore, Rejected<(Vec<u8>, Vec<SlotRow>)>>, AllocError> {
     let row = SlotRow {
         slot: 0,
         length: 0,
         mailbox: 0,
     };
-    match slots::store::filing::build(vec![in heap; 7; octets]?, vec![in heap; row; rows]?) {
-        Ok(store) => {
-            check(store.count() == 0)?;
-            Ok(Some(store))
-        }
-        Err(rejected) => {
-            check(rejected.refusal.number() == 14)?;
-            check(rejected.given.0.len() == octets && rejected.given.1.len() == rows)?;
-            Ok(None)
-        }
+    let octets = vec![in heap; 7; octets]?;
+    let rows = vec![in heap; row; rows]?;
+    Ok(slots::store::filing::build(octets, rows))
+}
+
+// What a build gives that should not be refused.
+pub(crate) fn lawful<S, T: Drop>(built: Result<S, Rejected<T>>) -> Result<S, Fail> {
+    match built {
+        Ok(spool) => Ok(spool),
+        Err(_) => Err(Fail::new("the build is refused")),
     }
 }
 
-// A quota layer over a spool; none where it is refused as unlawful and the spool handed back.
-pub(crate) fn layer<S: Spool + Drop>(
-    below: S,
-    entries: usize,
-    octets: usize,
-) -> Result<Option<Quota<S>>, Fail> {
-    let count = below.count();
-    let is_open = below.lot_is_open();
-    match Quota::build(below, entries, octets) {
-        Ok(layer) => Ok(Some(layer)),
-        Err(rejected) => {
-            check(rejected.refusal.number() == 14)?;
-            check(rejected.given.count() == count)?;
-            check(rejected.given.lot_is_open() == is_open)?;
-            Ok(None)
-        }
-    }
-}
-
-// Holds that a call is refused by a ground.
-pub(crate) fn refused<T: Drop>(answer: Result<T, Refusal>, number: u8) -> Result<(), Fail> {
+// The number of a refusal, 0 where there is none.
+pub(crate) fn number<T: Drop>(answer: Result<T, Refusal>) -> u8 {
     match answer {
-        Ok(_) => Err(Fail::new("not refused")),
-        Err(refusal) => check_eq(refusal.number(), number),
+        Ok(_) => 0,
+        Err(refusal) => refusal.number(),
     }
 }
 
-// Holds that a call is refused for want of room, by a cause so many layers down.
-pub(crate) fn no_room(answer: Result<(), Refusal>, layer: u8, cause: u8) -> Result<(), Fail> {
+// The number of a refusal, and the layer and the cause where it is for want of room; zeros where there is none.
+pub(crate) fn fault(answer: Result<(), Refusal>) -> (u8, u8, u8) {
     match answer {
-        Err(Refusal::NoRoom(fault)) => {
-            check_eq(fault.layer, layer)?;
-            check_eq(fault.cause, cause)
-        }
-        _ => Err(Fail::new("not refused for want of room")),
+        Ok(()) => (0, 0, 0),
+        Err(Refusal::NoRoom(fault)) => (12, fault.layer, fault.cause),
+        Err(refusal) => (refusal.number(), 0, 0),
     }
 }
 
@@ -98,17 +76,13 @@ pub(crate) fn payload(seed: u8) -> [u8; 128] {
     octets
 }
 
-// Holds that an entry stands at a place with its payload, and that a copy leaves the buffer's tail unaltered.
-pub(crate) fn holds<S: Spool>(spool: &S, at: usize, mailbox: usize, seed: u8) -> Result<(), Fail> {
+// Whether an entry stands at a place with its payload, and a copy leaves the buffer's tail unaltered.
+pub(crate) fn holds<S: Spool>(spool: &S, at: usize, mailbox: usize, seed: u8) -> bool {
     let Ok(summary) = spool.entry(at) else {
-        return Err(Fail::new("no entry"));
+        return false;
     };
-    check(summary.mailbox == mailbox && summary.length == 128)?;
     let mut buffer = [250; 130];
-    let Ok(length) = spool.copy(at, &mut buffer) else {
-        return Err(Fail::new("no copy"));
-    };
-    check(length == 128)?;
-    check(&buffer[0..128] == &payload(seed))?;
-    check(buffer[128] == 250 && buffer[129] == 250)
+    let length = spool.copy(at, &mut buffer).unwrap_or(0);
+    let is_same = &buffer[0..128] == &payload(seed) && &buffer[128..130] == &[250, 250];
+    is_same && length == 128 && summary.length == 128 && summary.mailbox == mailbox
 }
