@@ -15,9 +15,9 @@ use slots::store::filing::SlotSpool;
 use spool::interface::Spool;
 use std::test::*;
 
-// Over an empty spool: a lot is opened once, keeps what is held from removal, and leaves nothing where it is withdrawn.
-fn withdraws<S: Spool>(spool: &mut S) -> Result<(), Fail> {
-    let answers = [
+// Over an empty spool: a lot is opened once, and keeps what is held from removal.
+fn in_a_lot<S: Spool>(spool: &mut S) -> [u8; 8] {
+    [
         number(spool.stage(3, b"text")),
         number(file(spool, 3, &payload(1))),
         number(spool.open_lot()),
@@ -26,56 +26,74 @@ fn withdraws<S: Spool>(spool: &mut S) -> Result<(), Fail> {
         number(collect(spool, 3, &mut payload(0))),
         number(spool.stage(4, b"text")),
         number(spool.stage(64, b"text")),
-    ];
-    check_eq(answers, [11, 0, 0, 10, 10, 10, 0, 7])?;
-    let counts = [
+    ]
+}
+
+// Over a lot with one entry: it leaves nothing where it is withdrawn.
+fn withdrawn<S: Spool>(spool: &mut S) -> [usize; 4] {
+    [
         spool.staged_count(),
         spool.withdraw(),
         spool.staged_count(),
         spool.count(),
-    ];
-    check_eq(counts, [1, 1, 0, 1])?;
-    check(!spool.lot_is_open() && holds(spool, 0, 3, 1))
+    ]
 }
 
-// Over a spool that holds one entry, for mailbox 3: no such mailbox, nothing held, a short buffer, no such entry.
-fn refuses<S: Spool>(spool: &mut S) -> Result<(), Fail> {
-    let mut short = [9; 127];
-    let answers = [
+// Over one entry, for mailbox 3: no such mailbox, nothing held, a buffer of 127 octets, no such entry.
+fn refusing<S: Spool>(spool: &mut S, short: &mut [u8]) -> [u8; 8] {
+    [
         number(file(spool, 64, b"text")),
         number(spool.room(64, 1)),
-        number(collect(spool, 64, &mut short)),
-        number(collect(spool, 4, &mut short)),
-        number(collect(spool, 3, &mut short)),
-        number(spool.copy(0, &mut short)),
+        number(collect(spool, 64, short)),
+        number(collect(spool, 4, short)),
+        number(collect(spool, 3, short)),
+        number(spool.copy(0, short)),
         number(spool.entry(1)),
         number(spool.remove(1)),
-    ];
-    check_eq(answers, [7, 7, 7, 8, 9, 9, 13, 13])?;
-    check(short == [9; 127] && holds(spool, 0, 3, 1))?;
-    let mut whole = [9; 128];
-    check_eq(number(collect(spool, 3, &mut whole)), 0)?;
-    check(whole == payload(1) && spool.count() == 0)
+    ]
 }
 
 // Over an empty spool with room for four payloads of mailbox 3: one is taken out of the middle, and then there is room again.
-fn takes_out_the_middle<S: Spool>(spool: &mut S, cause: u8) -> Result<(), Fail> {
-    for seed in 1..5 {
-        check_eq(number(file(spool, 3, &payload(seed))), 0)?;
-    }
-    check_eq(fault(file(spool, 3, &payload(5))), (12, 0, cause))?;
-    check_eq(number(spool.remove(1)), 0)?;
-    check_eq(number(file(spool, 3, &payload(5))), 0)?;
-    for (at, seed) in [(0, 1), (1, 3), (2, 4), (3, 5)] {
-        check(holds(spool, at, 3, seed))?;
-    }
-    check_eq(spool.count(), 4)
+fn filled<S: Spool>(spool: &mut S) -> [(u8, u8, u8); 7] {
+    [
+        fault(file(spool, 3, &payload(1))),
+        fault(file(spool, 3, &payload(2))),
+        fault(file(spool, 3, &payload(3))),
+        fault(file(spool, 3, &payload(4))),
+        fault(file(spool, 3, &payload(5))),
+        fault(spool.remove(1)),
+        fault(file(spool, 3, &payload(5))),
+    ]
+}
+
+fn holds_in_order<S: Spool>(spool: &S, seeds: [u8; 4]) -> bool {
+    let [first, second, third, fourth] = seeds;
+    holds(spool, 0, 3, first)
+        && holds(spool, 1, 3, second)
+        && holds(spool, 2, 3, third)
+        && holds(spool, 3, 3, fourth)
+        && spool.count() == 4
+}
+
+fn lot_and_refusals<S: Spool>(spool: &mut S) -> Result<(), Fail> {
+    check_eq(in_a_lot(spool), [11, 0, 0, 10, 10, 10, 0, 7])?;
+    check_eq(withdrawn(spool), [1, 1, 0, 1])?;
+    let mut short = [9; 127];
+    check_eq(refusing(spool, &mut short), [7, 7, 7, 8, 9, 9, 13, 13])?;
+    check(short == [9; 127] && holds(spool, 0, 3, 1) && !spool.lot_is_open())
 }
 
 fn each_in_turn<S: Spool>(spool: &mut S, cause: u8) -> Result<(), Fail> {
-    withdraws(spool)?;
-    refuses(spool)?;
-    takes_out_the_middle(spool, cause)
+    lot_and_refusals(spool)?;
+    let mut whole = [9; 128];
+    check_eq(number(collect(spool, 3, &mut whole)), 0)?;
+    check(whole == payload(1) && spool.count() == 0)?;
+    let done = (0, 0, 0);
+    check_eq(
+        filled(spool),
+        [done, done, done, done, (12, 0, cause), done, done],
+    )?;
+    check(holds_in_order(spool, [1, 3, 4, 5]))
 }
 
 #[test]

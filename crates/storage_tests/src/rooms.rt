@@ -29,13 +29,20 @@ fn in_one_free_slot_for_a_mailbox_twice(rt: LibcRuntime) -> Result<(), Fail> {
     check_eq(answers, [(12, 0, 1), (0, 0, 0), (0, 0, 0), (12, 0, 2)])
 }
 
+// The same, seen from one layer above and from two.
+fn one_layer_up<S: Spool + Drop>(below: S) -> Result<[(u8, u8, u8); 4], Fail> {
+    let mut layer = lawful(Quota::build(below, 2, 65536))?;
+    Ok(one_slot(&mut layer))
+}
+
+fn two_layers_up<S: Spool + Drop>(below: S) -> Result<[(u8, u8, u8); 4], Fail> {
+    one_layer_up(lawful(Quota::build(below, 2, 65536))?)
+}
+
 #[test]
 fn three_layers_down(rt: LibcRuntime) -> Result<(), Fail> {
     let slots = lawful(store_over(rt.alloc(), 512, 1)?)?;
-    let first = lawful(Quota::build(slots, 2, 65536))?;
-    let second = lawful(Quota::build(first, 2, 65536))?;
-    let mut third = lawful(Quota::build(second, 2, 65536))?;
-    let answers = one_slot(&mut third);
+    let answers = two_layers_up(lawful(Quota::build(slots, 2, 65536))?)?;
     check_eq(answers, [(12, 3, 1), (0, 0, 0), (0, 0, 0), (12, 3, 2)])
 }
 
@@ -54,7 +61,10 @@ fn two_entries<S: Spool>(spool: &mut S) -> [(u8, u8, u8); 5] {
 fn in_a_log(rt: LibcRuntime) -> Result<(), Fail> {
     let mut log = lawful(log_over(rt.alloc(), 512, 2)?)?;
     let answers = two_entries(&mut log);
-    check_eq(answers, [(0, 0, 0), (12, 0, 3), (0, 0, 0), (0, 0, 0), (12, 0, 4)])
+    check_eq(
+        answers,
+        [(0, 0, 0), (12, 0, 3), (0, 0, 0), (0, 0, 0), (12, 0, 4)],
+    )
 }
 
 #[test]
@@ -62,5 +72,8 @@ fn in_a_quota(rt: LibcRuntime) -> Result<(), Fail> {
     let log = lawful(log_over(rt.alloc(), 65536, 256)?)?;
     let mut quota = lawful(Quota::build(log, 2, 512))?;
     let answers = two_entries(&mut quota);
-    check_eq(answers, [(0, 0, 0), (12, 0, 6), (0, 0, 0), (0, 0, 0), (12, 0, 5)])
+    check_eq(
+        answers,
+        [(0, 0, 0), (12, 0, 6), (0, 0, 0), (0, 0, 0), (12, 0, 5)],
+    )
 }
