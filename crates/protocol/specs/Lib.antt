@@ -1,0 +1,4 @@
+pub mod Lines
+pub mod Buffers
+pub mod Messages
+pub mod DataParts
