@@ -4,12 +4,12 @@ use lib.Dec.{eqb, ltb, leb}
 use lib.ListN.{length, take, set}
 use mathlib.Core.Bool.{Bool, true, false}
 use mathlib.Core.List.{List, [], _∷_, _++_, append-assoc}
-use mathlib.Core.Logic.{_⊎_, inl, inr}
+use mathlib.Core.Logic.{inl, inr}
 use mathlib.Core.Path.{_≡_, refl, sym, ap, subst, _∙_}
 use native.Mathlib.Nat.{min-eq-left, min-eq-right}
 use native.Mathlib.Omega.{arith}
-use Rattle.std.proofs.shelf.Lists.{length-push, length-append, same-from-push, take-all, take-at, take-append-le, take-more-set, take-take}
-use Rattle.std.proofs.shelf.Tests.{cases-lt, le-leb, lt-leb, lt-ltb, le-ltb, ltb-true, ltb-false, both-ways}
+use Rattle.std.proofs.shelf.Lists.{length-push, length-append, take-all, take-at, take-append-le, take-more-set, take-take}
+use Rattle.std.proofs.shelf.Tests.{cases-lt, le-leb, lt-leb, lt-ltb, le-ltb, ltb-true, ltb-false}
 use Rattle.protocol.specs.declared.line.LineBuffer.{LineBuffer}
 use Rattle.protocol.specs.Buffers.{longest, kept, CrLast, LineStands, LineEnds, LinePushed, BufferLaws}
 use Rattle.protocol.specs.Lines.{Unbroken, ended}

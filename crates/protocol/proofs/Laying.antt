@@ -2,7 +2,7 @@
 use Prim.Native.Nat.{ℕ, _+_, _-_, _<_, _≤_, min, zero-le}
 use lib.Dec.{ltb}
 use lib.ListN.{length, take, drop, set}
-use mathlib.Core.Bool.{Bool, true, false, _||_}
+use mathlib.Core.Bool.{Bool, true, false}
 use mathlib.Core.List.{List, [], _∷_, _++_, append-assoc}
 use mathlib.Core.Logic.{_⊎_, inl, inr}
 use mathlib.Core.Path.{_≡_, refl, sym, ap, subst, _∙_}
@@ -13,6 +13,7 @@ use Rattle.std.proofs.shelf.Lists.{append-nil, length-append, length-drop, leng
 use Rattle.std.proofs.shelf.Tests.{cases-lt, lt-ltb, le-ltb}
 use Rattle.protocol.specs.declared.part.DataPart.{DataPart}
 use Rattle.protocol.specs.DataParts.{Laid, Adds}
+use Rattle.protocol.specs.Outputs.{overlaid}
 
 pub laid-none : (was : List ℕ) → Laid [] was was 0 false
 laid-none was = record { count = sym (min-eq-left zero-le); past = sym (le-ltb (length was) 0 (omega arith)); holds = sym (ap (λ t. t ++ was) (take-all (length was) [] (omega arith))) }
@@ -83,7 +84,7 @@ laid-long payload was area kept over l =
     elim (laid-cases payload was area kept over l) [ inl f ↦ fits-long payload was area kept over f | inr o ↦ over-long payload was area kept over o ]
 
 -- A run that the area has room for.
-pub adds-all : (run payload was area : List ℕ) (kept : ℕ) (over : Bool) → kept < length area → kept + length run ≤ length area → Laid payload was area kept over → Laid (payload ++ run) was (take kept area ++ (run ++ drop (kept + length run) area)) (kept + length run) over
+pub adds-all : (run payload was area : List ℕ) (kept : ℕ) (over : Bool) → kept < length area → kept + length run ≤ length area → Laid payload was area kept over → Laid (payload ++ run) was (overlaid area kept run) (kept + length run) over
 adds-all run payload was area kept over lt room l =
     elim (laid-cases payload was area kept over l) [
       | inl f ↦
@@ -95,7 +96,7 @@ adds-all run payload was area kept over lt room l =
           let rest : drop (kept + length run) area ≡ drop (length (payload ++ run)) was =
           sym (drop-drop (length run) kept area) ∙ ap (drop (length run)) back ∙ drop-drop (length run) (length payload) was ∙ ap (λ i. drop i was) (sym p)
           in
-          laid-fits (payload ++ run) was (take kept area ++ (run ++ drop (kept + length run) area)) (kept + length run) over (omega arith) (omega arith) (f .past)
+          laid-fits (payload ++ run) was (overlaid area kept run) (kept + length run) over (omega arith) (omega arith) (f .past)
           (ap (λ t. t ++ (run ++ drop (kept + length run) area)) front ∙ ap (λ t. payload ++ (run ++ t)) rest ∙ sym (append-assoc payload run (drop (length (payload ++ run)) was)))
       | inr o ↦ let n = over-long payload was area kept over o in let k = o .count in absurd (omega arith)
     ]
@@ -118,9 +119,9 @@ adds-none run payload was area kept over full some l =
     ]
 
 -- A run that fills the area and goes past it.
-pub adds-part : (run part payload was area : List ℕ) (kept room : ℕ) (over : Bool) → kept < length area → room ≡ length area - kept → room < length run → part ≡ take room run → Laid payload was area kept over → Laid (payload ++ run) was (take kept area ++ (part ++ drop (kept + length part) area)) (kept + room) true
+pub adds-part : (run part payload was area : List ℕ) (kept room : ℕ) (over : Bool) → kept < length area → room ≡ length area - kept → room < length run → part ≡ take room run → Laid payload was area kept over → Laid (payload ++ run) was (overlaid area kept part) (kept + length part) true
 adds-part run part payload was area kept room over lt is short cut l =
-    let area′ = take kept area ++ (part ++ drop (kept + length part) area) in
+    let area′ = overlaid area kept part in
     let n : length part ≡ room = ap length cut ∙ length-take-le room run (omega arith) in
     let first : Laid (payload ++ part) was area′ (kept + length part) over = adds-all part payload was area kept over lt (omega arith) l in
     let long : length area′ ≡ length was = laid-long (payload ++ part) was area′ (kept + length part) over first in
@@ -131,8 +132,7 @@ adds-part run part payload was area kept room over lt is short cut l =
     append-assoc payload part (drop room run) ∙ ap (λ t. payload ++ (t ++ drop room run)) cut ∙ ap (λ t. payload ++ t) (take-append-drop room run)
     in
     let P : List ℕ → Type 0 = λ t. Laid t was area′ (kept + length part) true in
-    let Q : ℕ → Type 0 = λ i. Laid (payload ++ run) was area′ (kept + i) true in
-    subst Q n (subst P whole q)
+    subst P whole q
 
 -- One octet that the area has room for.
 pub adds-one : (x : ℕ) (payload was area : List ℕ) (kept : ℕ) (over : Bool) → kept < length area → Laid payload was area kept over → Laid (payload ++ (x ∷ [])) was (set area kept x) (kept + 1) over

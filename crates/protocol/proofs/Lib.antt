@@ -7,3 +7,6 @@ pub mod MessageCuts
 pub mod Moves
 pub mod Takes
 pub mod Settles
+pub mod Overlays
+pub mod Spelling
+pub mod Sayings

@@ -1,5 +1,5 @@
 -- The laws of messages, from the one cut into lines.
-use Prim.Native.Nat.{ℕ, _+_, zero-le}
+use Prim.Native.Nat.{ℕ, _+_}
 use lib.Chars.{codes}
 use lib.Dec.{eqb}
 use lib.ListN.{length}
@@ -11,7 +11,7 @@ use native.Mathlib.Omega.{arith}
 use Rattle.std.specs.Joined.{joined}
 use Rattle.std.specs.shelf.Lists.{All}
 use Rattle.std.proofs.shelf.Elements.{all-push}
-use Rattle.std.proofs.shelf.Lists.{append-nil, length-append, same-from-push, joined-more}
+use Rattle.std.proofs.shelf.Lists.{append-nil, length-append, same-from-push}
 use Rattle.std.proofs.shelf.Tests.{eqb-true, eqb-false}
 use Rattle.protocol.specs.Lines.{Unbroken, Lines, ended}
 use Rattle.protocol.specs.Messages.{dot, Body, Message, Unfinished, MessageLaws, MessageFacts, carried}
@@ -106,15 +106,24 @@ either a =
           let head = front ++ (dot ∷ []) in
           let is : ls ≡ head ++ back = g .1 .1 .0 ∙ sym (append-assoc front (dot ∷ []) back) in
           let P : List (List ℕ) → Type 0 = λ t. All Unbroken t in
-          inr (joined ended head, (joined ended back ++ rest, (joined carried front, (
-            c .whole ∙ ap (λ t. joined ended t ++ rest) is ∙ ap (λ t. t ++ rest) (joined-append head back) ∙ append-assoc (joined ended head) (joined ended back) rest,
-            record {
-              texts = front;
-              cut = record { whole = sym (append-nil (joined ended head)); each = all-front Unbroken head back (subst P is (c .each)); unended = unbroken-nil };
-              body = g .1 .1 .1;
-              carries = refl;
-            },
-          ))))
+          inr (
+            joined ended head,
+            (
+              joined ended back ++ rest,
+              (
+                joined carried front,
+                (
+                  c .whole ∙ ap (λ t. joined ended t ++ rest) is ∙ ap (λ t. t ++ rest) (joined-append head back) ∙ append-assoc (joined ended head) (joined ended back) rest,
+                  record {
+                    texts = front;
+                    cut = record { whole = sym (append-nil (joined ended head)); each = all-front Unbroken head back (subst P is (c .each)); unended = unbroken-nil };
+                    body = g .1 .1 .1;
+                    carries = refl;
+                  },
+                ),
+              ),
+            ),
+          )
     ]
 
 within : (a : List ℕ) (b : ℕ) (more p : List ℕ) → Message (a ++ (b ∷ more)) p → Unfinished a

@@ -3,7 +3,7 @@ use Prim.Native.Nat.{ℕ, _≤_}
 use lib.ListN.{length, take, drop}
 use mathlib.Core.Bool.{Bool}
 use mathlib.Core.List.{List, [], _∷_, _++_, append-assoc}
-use mathlib.Core.Logic.{_⊎_, inl, inr}
+use mathlib.Core.Logic.{inl, inr}
 use mathlib.Core.Path.{_≡_, refl, sym, ap, subst, _∙_}
 use native.Mathlib.Omega.{arith}
 use Rattle.std.specs.Joined.{joined}
@@ -14,7 +14,7 @@ use Rattle.protocol.specs.declared.part.LinePlace.{LinePlace}
 use Rattle.protocol.specs.declared.part.LinePlace.the-variants.{Start, Inside, Cr, Dot, DotCr}
 use Rattle.protocol.specs.Lines.{Lines}
 use Rattle.protocol.specs.Messages.{Message, Body, carried}
-use Rattle.protocol.specs.DataParts.{At, certain, known, Laid, DataStands, DataEnds, DataLaws}
+use Rattle.protocol.specs.DataParts.{At, known, Laid, DataStands, DataEnds, DataLaws}
 use Rattle.protocol.proofs.Breaks.{pushed-some}
 use Rattle.protocol.proofs.Cuts.{one-cut}
 use Rattle.protocol.proofs.Laying.{laid-front, one-laid}

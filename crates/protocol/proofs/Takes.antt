@@ -1,22 +1,22 @@
 -- What octets do to a data part and its area.
-use Prim.Native.Nat.{ℕ, zero, suc, _+_, _-_, _<_, _≤_, zero-le, suc-le-suc}
+use Prim.Native.Nat.{ℕ, _+_, _-_, _<_, _≤_, zero-le}
 use lib.ListN.{length, take, drop, getD}
 use mathlib.Core.Bool.{Bool, true, false}
 use mathlib.Core.List.{List, [], _∷_, _++_, append-assoc}
-use mathlib.Core.Logic.{_⊎_, inl, inr}
+use mathlib.Core.Logic.{inl, inr}
 use mathlib.Core.Path.{_≡_, refl, sym, ap, subst, _∙_}
 use native.Mathlib.Omega.{arith}
 use Rattle.std.specs.Joined.{joined}
 use Rattle.std.specs.shelf.Lists.{All}
 use Rattle.std.proofs.shelf.Edits.{getD-between}
 use Rattle.std.proofs.shelf.Elements.{all-from-getD}
-use Rattle.std.proofs.shelf.Lists.{append-nil, length-drop, length-take-le, getD-drop, getD-take, joined-more, take-more, take-append-drop, take-take, drop-take}
+use Rattle.std.proofs.shelf.Lists.{append-nil, length-drop, length-take-le, getD-drop, getD-take, take-more, take-append-drop, take-take}
 use Rattle.std.proofs.shelf.Parts.{between-is}
 use Rattle.std.proofs.shelf.Tests.{cases-lt}
 use Rattle.protocol.specs.declared.part.DataPart.{DataPart}
 use Rattle.protocol.specs.declared.part.LinePlace.{LinePlace}
 use Rattle.protocol.specs.declared.part.LinePlace.the-variants.{Inside, DotCr}
-use Rattle.protocol.specs.Lines.{Lines, ended}
+use Rattle.protocol.specs.Lines.{Lines}
 use Rattle.protocol.specs.Messages.{Message, Body, dot, carried}
 use Rattle.protocol.specs.DataParts.{At, known, Laid, DataStands, DataEnds, DataAfter, DataTook, Adds, Clear}
 use Rattle.protocol.proofs.Cuts.{lines-none, lines-end}

@@ -2,3 +2,5 @@ pub mod Lines
 pub mod Buffers
 pub mod Messages
 pub mod DataParts
+pub mod Outputs
+pub mod Replies

@@ -1,11 +1,12 @@
-ghost use Prim.Native.Nat.{ℕ, _+_, _<_, _≤_};
+ghost use Prim.Native.Nat.{ℕ, _<_, _≤_};
 ghost use Rattle.protocol.specs.DataParts.{Adds, Clear, DataAfter, DataLaws, DataStands, DataTook, inside};
 ghost use Rattle.protocol.specs.Messages.{MessageFacts, MessageLaws};
-ghost use Rattle.protocol.specs.declared.part.LinePlace.the-variants.{Inside};
-ghost use lib.ListN.{drop, length, take};
+ghost use Rattle.protocol.specs.declared.part.LinePlace.the-variants.{DotCr, Inside};
+ghost use lib.ListN.{length, take};
 ghost use mathlib.Core.Bool.{false};
-ghost use mathlib.Core.List.{List, [], _∷_, _++_};
+ghost use mathlib.Core.List.{List, [], _∷_};
 ghost use mathlib.Core.Path.{_≡_};
+use crate::output::copy_to;
 
 // Where a line of a data part that has not ended stands.
 #[derive(Clone, Copy)]
@@ -92,15 +93,21 @@ impl DataPart {
                 }
                 false
             }
-            LinePlace::DotCr => {
-                if octet == b'\n' {
-                    return true;
-                }
-                self.put(b'\r', area);
-                self.go_on(octet, area);
-                false
-            }
+            LinePlace::DotCr => self.end_or_go_on(octet, area),
         }
+    }
+
+    // After a dot and a CR at a line's front: the LF ends the message, and before any other octet the CR is payload.
+    fn end_or_go_on(&mut self, octet: u8, area: &mut [u8]) -> bool
+        requires { ⌜ now self .place ≡ DotCr ⌝ }
+        ensures { λ r. ⌜ DataTook (now (self .entry)) (now (self .exit)) (now (area .entry)) (now (area .exit)) (octet ∷ []) r ⌝ }
+    {
+        if octet == b'\n' {
+            return true;
+        }
+        self.put(b'\r', area);
+        self.go_on(octet, area);
+        false
     }
 
     // Takes octets up to the end of the message, a run at a time.
@@ -176,11 +183,9 @@ impl DataPart {
         if self.kept < area.len() {
             let room = area.len() - self.kept;
             if run.len() <= room {
-                copy_to(run, area, self.kept);
-                self.kept += run.len();
+                self.kept = copy_to(run, area, self.kept);
             } else {
-                copy_to(&run[0..room], area, self.kept);
-                self.kept += room;
+                self.kept = copy_to(&run[0..room], area, self.kept);
                 self.over = true;
             }
         } else {
@@ -197,14 +202,6 @@ fn place_inside(octet: u8) -> LinePlace
     } else {
         LinePlace::Inside
     }
-}
-
-// Puts a run into the area from a place on.
-fn copy_to(run: &[u8], area: &mut [u8], at: usize)
-    requires { ⌜ at + length (now run) ≤ length (now area) ⌝ }
-    ensures { λ _. ⌜ now (area .exit) ≡ take at (now (area .entry)) ++ (now (run .entry) ++ drop (at + length (now (run .entry))) (now (area .entry))) ⌝ }
-{
-    area[at..at + run.len()].copy_from_slice(run);
 }
 
 // The first CR from a place on, or the end.

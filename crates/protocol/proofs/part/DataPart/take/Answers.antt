@@ -1,10 +1,8 @@
-use mathlib.Core.List.{[], _∷_}
 use mathlib.Core.Path.{refl}
 use Rattle.protocol.specs.DataParts.{inside}
 use Rattle.protocol.specs.declared.part.LinePlace.the-variants.{Start, Inside, Cr, Dot, DotCr}
-use Rattle.protocol.proofs.Laying.{adds-both}
-use Rattle.protocol.proofs.Moves.{inside-on, cr-on, start-on, dot-on, dotcr-on, start-dot, dot-cr, cr-lf}
-use Rattle.protocol.proofs.Takes.{took-on, took-quiet, took-end}
+use Rattle.protocol.proofs.Moves.{inside-on, cr-on, start-on, dot-on, start-dot, dot-cr, cr-lf}
+use Rattle.protocol.proofs.Takes.{took-on, took-quiet}
 use Rattle.protocol.proofs.part.DataPart.take.Needs as need
 
 pub returns-then-octet-eq46 : need.returns-then-octet-eq46
@@ -31,11 +29,3 @@ returns-then-octet-eq13 c = took-quiet Dot DotCr _ _ _ (dot-cr _ (c .if-octet-eq
 pub returns-else-octet-eq13 : need.returns-else-octet-eq13
 returns-else-octet-eq13 c =
     took-on Dot (inside (c .args .octet)) _ _ _ _ _ _ (dot-on _ (c .if-octet-eq13 .left)) (c .in-Dot .is) (c .go-on-else-octet-eq13 .ensures .place) (c .go-on-else-octet-eq13 .ensures .adds)
-
-pub returns-then-octet-eq10-2 : need.returns-then-octet-eq10-2
-returns-then-octet-eq10-2 c = took-end _ _ _ (c .if-octet-eq10-2 .taken) (c .in-DotCr .is)
-
-pub returns-else-octet-eq10-2 : need.returns-else-octet-eq10-2
-returns-else-octet-eq10-2 c =
-    took-on DotCr (inside (c .args .octet)) _ _ _ _ _ _ (dotcr-on _ (c .if-octet-eq10-2 .left)) (c .in-DotCr .is) (c .go-on-in-DotCr .ensures .place)
-    (adds-both (13 ∷ []) (c .args .octet ∷ []) (c .args .self .now) (c .put-in-DotCr .last .self) (c .go-on-in-DotCr .last .self) _ (c .put-in-DotCr .last .area) _ (c .put-in-DotCr .ensures .adds) (c .go-on-in-DotCr .ensures .adds))
