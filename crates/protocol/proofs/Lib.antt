@@ -1,0 +1,12 @@
+pub mod Breaks
+pub mod Cuts
+pub mod Trims
+pub mod Buffering
+pub mod Laying
+pub mod MessageCuts
+pub mod Moves
+pub mod Takes
+pub mod Settles
+pub mod Overlays
+pub mod Spelling
+pub mod Sayings

@@ -1,0 +1,6 @@
+pub mod Lines
+pub mod Buffers
+pub mod Messages
+pub mod DataParts
+pub mod Outputs
+pub mod Replies
