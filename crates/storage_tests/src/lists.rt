@@ -1,5 +1,6 @@
 // An ordered list: what does not fit and what is not there is refused by 13, and nothing is altered.
 use crate::stands::number;
+use crate::stands::same_numbers;
 use spool::list::OrderedList;
 use std::test::*;
 
@@ -21,12 +22,12 @@ fn filled(list: &mut OrderedList, memory: &mut [u8]) -> [u8; 8] {
 fn full_and_absent() -> Result<(), Fail> {
     let mut memory = [0; 4];
     let mut list = OrderedList::new();
-    check_eq(
-        filled(&mut list, &mut memory),
-        [13, 13, 13, 0, 0, 13, 13, 13],
+    same_numbers(
+        &filled(&mut list, &mut memory),
+        &[13, 13, 13, 0, 0, 13, 13, 13],
     )?;
     check(list.len(&memory) == 4 && memory == [1, 2, 3, 4])?;
     let _ = list.remove(&mut memory, 1);
-    check_eq(number(list.get(&memory, 3)), 13)?;
+    same_numbers(&[number(list.get(&memory, 3))], &[13])?;
     check(list.len(&memory) == 3 && &memory[0..3] == &[1, 3, 4])
 }

@@ -67,6 +67,16 @@ pub(crate) fn fault(answer: Result<(), Refusal>) -> (u8, u8, u8) {
     }
 }
 
+// Holds answers to the numbers expected.
+pub(crate) fn same_numbers(answers: &[u8], expected: &[u8]) -> Result<(), Fail> {
+    check_eq(answers, expected)
+}
+
+// Holds answers to the numbers, layers and causes expected.
+pub(crate) fn same_faults(answers: &[(u8, u8, u8)], expected: &[(u8, u8, u8)]) -> Result<(), Fail> {
+    check_eq(answers, expected)
+}
+
 // A payload of 128 octets, each another one than its neighbours.
 pub(crate) fn payload(seed: u8) -> [u8; 128] {
     let mut octets = [0; 128];
