@@ -13,7 +13,7 @@ use Rattle.std.specs.declared.option.Option.{Option}
 use Rattle.std.specs.declared.option.Option.the-variants.{Some, None}
 use Rattle.std.specs.shelf.Text.{sameBytes}
 use Rattle.std.proofs.shelf.Equals.{sameBytes-decides}
-use Rattle.std.proofs.shelf.Lists.{take-rest, take-append-drop, drop-more}
+use Rattle.std.proofs.shelf.Lists.{take-rest, take-append-drop, drop-more, at-drop-more}
 use Rattle.std.proofs.shelf.Tests.{cond-both}
 use Rattle.std.proofs.shelf.Ways.{same-from-decides, decides-and, decides-or}
 use Rattle.address.specs.Comparison.{SameDomain, SameLocal, sameDomain, sameLocal, postmaster}
@@ -61,3 +61,12 @@ first-below kind text (row ∷ rows) local domain h =
     cond-both (fitsRow kind (octetsOf text row) local domain) (Some (row .mailbox)) (firstFit kind text rows local domain) P
     (λ _. h 0 row (omega arith))
     (λ _. first-below kind text rows local domain (λ k d l. h (suc k) d (omega arith)))
+
+-- One row on.
+pub first-step : (kind : RowKind) (text : List ℕ) (rows : List DirectoryRow) (local domain : List ℕ) (i : ℕ) → i < length rows →
+    (xs : List ℕ) → xs ≡ octetsOf text (getD rows i noRow) → (b : Bool) → b ≡ fitsRow kind xs local domain →
+    firstFit kind text (drop i rows) local domain ≡ cond b (Some (getD rows i noRow .mailbox)) (firstFit kind text (drop (i + 1) rows) local domain)
+first-step kind text rows local domain i l xs e b h =
+    let F : List DirectoryRow → Option ℕ = λ v. firstFit kind text v local domain in
+    at-drop-more F rows i noRow l
+    ∙ ap (λ t. cond t (Some (getD rows i noRow .mailbox)) (F (drop (i + 1) rows))) (ap (λ v. fitsRow kind v local domain) (sym e) ∙ sym h)

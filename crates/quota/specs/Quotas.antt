@@ -13,7 +13,7 @@ use Rattle.refusals.specs.declared.refusal.RoomFault.{RoomFault}
 use Rattle.quota.specs.Shares.{entriesOf, octetsOf}
 use Rattle.quota.specs.declared.limits.Limits.{Limits}
 
--- A number from the low end to the high end, both among it.
+-- From a low end to a high end, both included.
 abbrev pub inRange : ℕ → ℕ → ℕ → Bool
 inRange low high n = leb low n && leb n high
 
@@ -21,24 +21,27 @@ inRange low high n = leb low n && leb n high
 abbrev pub lawful : ℕ → ℕ → List Entry → Option (List Entry) → Bool
 lawful most wide h l = (inRange 1 1000 most && inRange 512 65536 wide) && (eqb (length h) 0 && not (isSome l))
 
--- A fault from below: one layer further off, nine at most.
-abbrev pub lifted : RoomFault → RoomFault
-lifted f = record { layer = min (f .layer + 1) 9; cause = f .cause }
+-- A fault from below lies one layer further off; the layer stops at nine.
+abbrev pub further : ℕ → ℕ
+further layer = min (layer + 1) 9
 
--- A refusal from below: what it carries, if anything, is a fault.
-abbrev pub farther : List ℕ → List ℕ
-farther [] = []
-farther (layer ∷ rest) = min (layer + 1) 9 ∷ rest
+abbrev pub lifted : RoomFault → RoomFault
+lifted f = record { layer = further (f .layer); cause = f .cause }
+
+-- The same of a refusal: what it carries, if anything, is a fault, the layer first.
+abbrev pub raisedValues : List ℕ → List ℕ
+raisedValues [] = []
+raisedValues (layer ∷ rest) = further layer ∷ rest
 
 abbrev pub raised : Notice → Notice
-raised n = record { number = n .number; values = farther (n .values) }
+raised n = record { number = n .number; values = raisedValues (n .values) }
 
 -- A fault of the layer itself.
 abbrev pub own : ℕ → Option RoomFault
 own cause = Some (record { layer = 0; cause = cause })
 
--- The room for n octets more in a mailbox that has some entries: too many entries is cause 5, too many octets cause 6. Then
--- the room below decides.
+-- The room for one entry of n octets more in a mailbox, among the entries that there are: one entry too many is cause 5,
+-- then octets too many cause 6, and then the room below decides.
 abbrev pub allows : Limits → List Entry → ℕ → ℕ → Option RoomFault → Option RoomFault
 allows q es m n r = cond (leb (entriesOf m es + 1) (q .entries)) (cond (leb (octetsOf m es + n) (q .octets)) (mapped lifted r) (own 6)) (own 5)
 

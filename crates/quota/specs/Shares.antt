@@ -5,7 +5,7 @@ use lib.ListN.{length}
 use mathlib.Core.Bool.{cond}
 use mathlib.Core.List.{List, _++_}
 use Rattle.std.specs.declared.option.Option.{Option}
-use Rattle.std.specs.shelf.Lists.{sumBy}
+use Rattle.std.specs.shelf.Lists.{countBy, sumBy}
 use Rattle.spool.specs.Entries.{Entry}
 use Rattle.spool.specs.Rules.{staged}
 use Rattle.quota.specs.declared.tally.Part.{Part}
@@ -17,7 +17,7 @@ share w m e = cond (eqb (e .mailbox) m) (w e) 0
 
 -- How many entries a mailbox has.
 abbrev pub entriesOf : ℕ → List Entry → ℕ
-entriesOf m es = sumBy (share (λ e. 1) m) es
+entriesOf m es = countBy (λ e. eqb (e .mailbox) m) es
 
 -- How many octets a mailbox has, in all of its payloads.
 abbrev pub octetsOf : ℕ → List Entry → ℕ

@@ -1,42 +1,25 @@
-use lib.ListN.{getD, drop}
-use mathlib.Core.Bool.{Bool, true, false}
-use mathlib.Core.List.{List, _∷_}
-use mathlib.Core.Path.{_≡_, sym, ap, _∙_}
-use Prim.Native.Nat.{ℕ, _+_}
+use mathlib.Core.Bool.{true, false}
+use mathlib.Core.List.{List}
+use mathlib.Core.Path.{sym, _∙_}
+use Prim.Native.Nat.{ℕ}
 use Rattle.std.specs.declared.option.Option.{Option}
-use Rattle.std.specs.declared.option.Option.the-variants.{Some}
-use Rattle.std.proofs.shelf.Lists.{at-drop-more, at-drop-all}
-use Rattle.std.proofs.shelf.Tests.{cond-true, cond-false}
-use Rattle.directory.specs.Rows.{fitsRow, firstFit, octetsOf}
+use Rattle.std.proofs.shelf.Lists.{at-drop-all}
+use Rattle.directory.specs.Rows.{firstFit}
 use Rattle.directory.specs.declared.row.DirectoryRow.{DirectoryRow}
-use Rattle.directory.proofs.Fitting.{noRow}
+use Rattle.directory.proofs.Fitting.{first-step}
 use Rattle.directory.proofs.spelling.first_fit.Needs as need
 
 pub returns-then-fits : need.returns-then-fits
 returns-then-fits c =
-    let text = c .args .text .now in
-    let rows = c .args .rows .now in
-    let local = c .args .local .now in
-    let domain = c .args .domain .now in
-    let F : List DirectoryRow → Option ℕ = λ v. firstFit (c .args .kind) text v local domain in
-    let row = getD rows (c .loop-i .i) noRow in
-    let e : fitsRow (c .args .kind) (octetsOf text row) local domain ≡ true =
-    ap (λ v. fitsRow (c .args .kind) v local domain) (sym (c .octets .ensures)) ∙ sym (c .if-fits .ensures tt) in
-    sym (cond-true (fitsRow (c .args .kind) (octetsOf text row) local domain) (Some (row .mailbox)) (F (drop (c .loop-i .i + 1) rows)) e)
-    ∙ sym (at-drop-more F rows (c .loop-i .i) noRow (c .loop-i-test .taken)) ∙ c .loop-i .inv
+    sym (first-step (c .args .kind) (c .args .text .now) (c .args .rows .now) (c .args .local .now) (c .args .domain .now)
+    (c .loop-i .i) (c .loop-i-test .taken) (c .octets .result .now) (c .octets .ensures) true (c .if-fits .ensures tt))
+    ∙ c .loop-i .inv
 
 pub loop-i-again : need.loop-i-again
 loop-i-again c =
-    let text = c .args .text .now in
-    let rows = c .args .rows .now in
-    let local = c .args .local .now in
-    let domain = c .args .domain .now in
-    let F : List DirectoryRow → Option ℕ = λ v. firstFit (c .args .kind) text v local domain in
-    let row = getD rows (c .loop-i .i) noRow in
-    let e : fitsRow (c .args .kind) (octetsOf text row) local domain ≡ false =
-    ap (λ v. fitsRow (c .args .kind) v local domain) (sym (c .octets .ensures)) ∙ sym (c .if-fits .ensures tt) in
-    sym (cond-false (fitsRow (c .args .kind) (octetsOf text row) local domain) (Some (row .mailbox)) (F (drop (c .loop-i .i + 1) rows)) e)
-    ∙ sym (at-drop-more F rows (c .loop-i .i) noRow (c .loop-i-test .taken)) ∙ c .loop-i .inv
+    sym (first-step (c .args .kind) (c .args .text .now) (c .args .rows .now) (c .args .local .now) (c .args .domain .now)
+    (c .loop-i .i) (c .loop-i-test .taken) (c .octets .result .now) (c .octets .ensures) false (c .if-fits .ensures tt))
+    ∙ c .loop-i .inv
 
 pub returns : need.returns
 returns c =
