@@ -10,7 +10,7 @@ use native.Mathlib.Nat.{min-eq-left, min-eq-right}
 use native.Mathlib.Numerals.{add-one}
 use native.Mathlib.Omega.{arith}
 use Rattle.std.proofs.shelf.Lists.{append-nil, length-append, length-drop, length-take-le, take-all, take-at, take-append-le, take-append-drop, drop-all, drop-at, drop-drop, set-split}
-use Rattle.std.proofs.shelf.Tests.{cases-lt, lt-ltb, le-ltb}
+use Rattle.std.proofs.shelf.Tests.{both-ways, cases-lt, lt-ltb, le-ltb}
 use Rattle.protocol.specs.declared.part.DataPart.{DataPart}
 use Rattle.protocol.specs.DataParts.{Laid, Adds}
 use Rattle.protocol.specs.Outputs.{overlaid}
@@ -82,6 +82,14 @@ over-long payload was area kept over o = let m = o .more in ap length (o .holds)
 pub laid-long : (payload was area : List ℕ) (kept : ℕ) (over : Bool) → Laid payload was area kept over → length area ≡ length was
 laid-long payload was area kept over l =
     elim (laid-cases payload was area kept over l) [ inl f ↦ fits-long payload was area kept over f | inr o ↦ over-long payload was area kept over o ]
+
+-- Payload that is not over lies whole at the front.
+pub laid-whole : (payload was area : List ℕ) (kept : ℕ) (over : Bool) → Laid payload was area kept over → over ≡ false → (kept ≡ length payload) × (take kept area ≡ payload)
+laid-whole payload was area kept over l e =
+    elim (laid-cases payload was area kept over l) [
+      | inl f ↦ (f .count, ap (take kept) (f .holds) ∙ take-at payload (drop (length payload) was) kept (sym (f .count)))
+      | inr o ↦ absurd (both-ways over e (o .past))
+    ]
 
 -- A run that the area has room for.
 pub adds-all : (run payload was area : List ℕ) (kept : ℕ) (over : Bool) → kept < length area → kept + length run ≤ length area → Laid payload was area kept over → Laid (payload ++ run) was (overlaid area kept run) (kept + length run) over

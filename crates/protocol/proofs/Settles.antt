@@ -17,7 +17,7 @@ use Rattle.protocol.specs.Messages.{Message, Body, carried}
 use Rattle.protocol.specs.DataParts.{At, known, Laid, DataStands, DataEnds, DataLaws}
 use Rattle.protocol.proofs.Breaks.{pushed-some}
 use Rattle.protocol.proofs.Cuts.{one-cut}
-use Rattle.protocol.proofs.Laying.{laid-front, one-laid}
+use Rattle.protocol.proofs.Laying.{laid-front, laid-whole, one-laid}
 use Rattle.protocol.proofs.MessageCuts.{one, apart}
 use Rattle.protocol.proofs.Moves.{step}
 use Rattle.protocol.proofs.Takes.{closes}
@@ -122,6 +122,7 @@ sure heard more d was area p s m =
 
 pub laws : DataLaws
 laws = record {
+  whole = λ heard d was area e n. laid-whole (e .payload) was area (d .kept) (d .over) (e .laid) n;
   sure = sure;
   stands = stands;
   ends = ends;

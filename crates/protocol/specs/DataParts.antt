@@ -75,6 +75,8 @@ Clear xs from end = (k : ℕ) → from ≤ k → k < end → getD xs k 0 ≡ 13 
 
 -- The octets heard and the area before them settle the state, the area and the end: the cuts between feeds do not matter.
 pub record DataLaws : Type 0 where
+  -- the payload of a message that is not over lies whole at the front of the area
+  pub whole : (heard : List ℕ) (d : DataPart) (was area : List ℕ) (e : DataEnds heard d was area) → d .over ≡ false → (d .kept ≡ length (e .payload)) × (take (d .kept) area ≡ e .payload)
   -- what was written is payload of every message that may come of it, and past that the area is as it was
   pub sure : (heard more : List ℕ) (d : DataPart) (was area p : List ℕ) → DataStands heard d was area → Message (heard ++ more) p → (d .kept ≤ length p) × (take (d .kept) area ≡ take (d .kept) p) × (drop (d .kept) area ≡ drop (d .kept) was)
   pub stands : (heard : List ℕ) (d e : DataPart) (was a b : List ℕ) → DataStands heard d was a → DataStands heard e was b → (d ≡ e) × (a ≡ b)
