@@ -1,0 +1,5 @@
+mod Counts
+mod Judging
+mod Naming
+mod Readings
+mod Spacing
