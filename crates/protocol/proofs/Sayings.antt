@@ -15,7 +15,7 @@ use Rattle.refusals.specs.declared.refusal.RoomFault.{RoomFault}
 use Rattle.protocol.specs.declared.reply.Reply.{Reply}
 use Rattle.protocol.specs.declared.reply.Reply.the-variants.{Greeting, Closing, Hello, Extensions, Done, CannotVerify, GoAhead, TooManyRecipients, LedgerFull, NoRoom, UnknownCommand, BadPath, BadArgument, OutOfOrder, NoSuchMailbox, TooLarge, UnknownParameter}
 use Rattle.protocol.specs.Outputs.{behind, put}
-use Rattle.protocol.specs.Replies.{octetsOf, valuesOf, leadOf, ReplyLaws}
+use Rattle.protocol.specs.Replies.{octetsOf, valuesOf, leadOf}
 
 -- Five parts, as they are put.
 abbrev pub parts : List ℕ → List ℕ → List ℕ → List ℕ → List ℕ → List ℕ
@@ -93,6 +93,3 @@ short name size OutOfOrder n s v = omega arith
 short name size NoSuchMailbox n s v = omega arith
 short name size TooLarge n s v = omega arith
 short name size UnknownParameter n s v = omega arith
-
-pub laws : ReplyLaws
-laws = record { short = short }

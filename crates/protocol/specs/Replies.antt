@@ -79,7 +79,3 @@ valuesOf r = saying [] 0 r .values
 -- A reply up to its detail.
 abbrev pub leadOf : Reply → List ℕ
 leadOf r = digits (codeOf r) ++ (mark (saying [] 0 r .further) ++ saying [] 0 r .words)
-
--- Of a receiver with a name of at most 40 octets and areas of at most 65,536, every reply has at most 256 octets.
-pub record ReplyLaws : Type 0 where
-  pub short : (name : List ℕ) (size : ℕ) (r : Reply) → length name ≤ 40 → size ≤ 65536 → All (λ v. v < 256) (valuesOf r) → length (octetsOf name size r) ≤ 256

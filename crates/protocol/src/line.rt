@@ -21,6 +21,8 @@ impl LineBuffer {
     pub fn new() -> LineBuffer
         ensures zero { λ r. ⌜ r .octets ≡ replicate 538 0 ⌝ }
         ensures stands { λ r. ⌜ LineStands [] r ⌝ }
+        ensures lines { λ _. ⌜ LineLaws ⌝ }
+        ensures buffers { λ _. ⌜ BufferLaws ⌝ }
     {
         LineBuffer {
             octets: [0; LONGEST],
@@ -77,7 +79,8 @@ impl LineBuffer {
     pub fn is_long(&self) -> bool
         ensures { λ r. ⌜ r ≡ now (self .entry) .long ⌝ }
     {
-        self.long
+        let long = self.long;
+        long
     }
 
     // Starts the next line.
@@ -99,16 +102,4 @@ pub fn trimmed(text: &[u8]) -> &[u8]
         end -= 1;
     }
     &text[0..end]
-}
-
-pub fn lines_stand() -> u8
-    ensures { λ _. ⌜ LineLaws ⌝ }
-{
-    0
-}
-
-pub fn buffers_stand() -> u8
-    ensures { λ _. ⌜ BufferLaws ⌝ }
-{
-    0
 }

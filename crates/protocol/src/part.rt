@@ -49,14 +49,16 @@ impl DataPart {
     pub fn kept(&self) -> usize
         ensures { λ r. ⌜ r ≡ now (self .entry) .kept ⌝ }
     {
-        self.kept
+        let kept = self.kept;
+        kept
     }
 
     // Whether the payload goes past the area.
     pub fn is_over(&self) -> bool
         ensures { λ r. ⌜ r ≡ now (self .entry) .over ⌝ }
     {
-        self.over
+        let over = self.over;
+        over
     }
 
     // Takes one octet, and answers whether it ended the message.
@@ -237,21 +239,11 @@ pub fn receive(input: &[u8], area: &mut [u8]) -> (DataPart, Fed)
     ensures within { λ r. ⌜ r .1 .taken ≤ length (now (input .entry)) ⌝ }
     ensures all { λ r. ⌜ (r .1 .ended ≡ false → r .1 .taken ≡ length (now (input .entry))) ⌝ }
     ensures after { λ r. ⌜ DataAfter (r .1 .ended) (take (r .1 .taken) (now (input .entry))) (r .0) (now (area .entry)) (now (area .exit)) ⌝ }
+    ensures messages { λ _. ⌜ MessageLaws ⌝ }
+    ensures facts { λ _. ⌜ MessageFacts ⌝ }
+    ensures settled { λ _. ⌜ DataLaws ⌝ }
 {
     let mut part = DataPart::new();
     let fed = part.feed(input, area);
     (part, fed)
-}
-
-pub fn messages_stand() -> u8
-    ensures laws { λ _. ⌜ MessageLaws ⌝ }
-    ensures facts { λ _. ⌜ MessageFacts ⌝ }
-{
-    0
-}
-
-pub fn data_stands() -> u8
-    ensures { λ _. ⌜ DataLaws ⌝ }
-{
-    0
 }

@@ -1,6 +1,6 @@
 ghost use Prim.Native.Nat.{_<_, _≤_};
 ghost use Rattle.protocol.specs.Outputs.{behind, put};
-ghost use Rattle.protocol.specs.Replies.{ReplyLaws, leadOf, octetsOf};
+ghost use Rattle.protocol.specs.Replies.{leadOf, octetsOf};
 ghost use Rattle.std.specs.Written.{decimal};
 ghost use lib.ListN.{drop, length};
 ghost use mathlib.Core.List.{_++_};
@@ -148,10 +148,4 @@ fn spell_octet(n: u8, digits: &mut [u8]) -> usize
     ensures small { λ _. ⌜ n < 256 ⌝ }
 {
     spell(n as usize, digits)
-}
-
-pub fn replies_stand() -> u8
-    ensures { λ _. ⌜ ReplyLaws ⌝ }
-{
-    0
 }
