@@ -92,7 +92,7 @@ pub fn is_local_part(s: &[u8]) -> bool
     ensures { λ r. ⌜ Decides r (IsLocal (now (s .entry))) ⌝ }
 {
     match local_part(s) {
-        Some(n) => is_all(n, s),
+        Some(octets) => is_all(octets, s),
         None => false,
     }
 }

@@ -7,7 +7,7 @@ use Rattle.address.proofs.parts.is_local_part.Needs as need
 pub returns-in-Some : need.returns-in-Some
 returns-in-Some c =
     let s = c .args .s .now in
-    let n = c .in-Some .n in
+    let n = c .in-Some .octets in
     let d = c .in-Some .ensures tt in (
       λ e. whole-local s n (d .holds) (eqb-true n (length s) (sym (c .is-all .ensures) ∙ e)),
       λ h. c .is-all .ensures ∙ eq-eqb n (length s) (sym (d .alone (length s) (local-whole s h))),
