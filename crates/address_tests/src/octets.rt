@@ -1,6 +1,5 @@
 // What the tests share: texts that repeat a piece, directories' texts and rows, and what calls answer.
 use directory::row::DirectoryRow;
-use directory::row::DirectoryRowDebug;
 use directory::row::DirectoryRowPartialEq;
 use paths::path::fault_number;
 use paths::path::read_path;

@@ -3,130 +3,135 @@ use crate::octets::reading;
 use crate::octets::repeated;
 use std::test::*;
 
+// the text, where "@" stands, and where the path ends
+const PATHS: [(&str, usize, usize); 15] = [
+    ("<a@b>", 2, 5),
+    ("<a.b@c.d>", 4, 9),
+    ("<!#$%&'*+-/=?^_`{|}~@c>", 20, 23),
+    ("<A-z.0@D-e--f.9>", 6, 16),
+    ("<a@1.2>", 2, 7),
+    // between quote marks
+    ("<\"\"@c>", 3, 6),
+    ("<\"a\\\"b\"@c>", 7, 10),
+    ("<\"\\\\\"@c>", 5, 8),
+    ("<\"\\a\\ \"@c>", 7, 10),
+    ("<\"a b\"@c>", 6, 9),
+    ("<\"a@b\"@c>", 6, 9),
+    ("<\"..>\"@c>", 6, 9),
+    // and something behind
+    ("<a@b>>", 2, 5),
+    ("<a@b> SIZE=9", 2, 5),
+    ("<a@b><c@d>", 2, 5),
+];
+
 #[test]
 fn of_paths() -> Result<(), Fail> {
-    // the text, where "@" stands, and where the path ends
-    let cases = [
-        ("<a@b>", 2, 5),
-        ("<a.b@c.d>", 4, 9),
-        ("<!#$%&'*+-/=?^_`{|}~@c>", 20, 23),
-        ("<A-z.0@D-e--f.9>", 6, 16),
-        ("<a@1.2>", 2, 7),
-        // between quote marks
-        ("<\"\"@c>", 3, 6),
-        ("<\"a\\\"b\"@c>", 7, 10),
-        ("<\"\\\\\"@c>", 5, 8),
-        ("<\"\\a\\ \"@c>", 7, 10),
-        ("<\"a b\"@c>", 6, 9),
-        ("<\"a@b\"@c>", 6, 9),
-        ("<\"..>\"@c>", 6, 9),
-        // and something behind
-        ("<a@b>>", 2, 5),
-        ("<a@b> SIZE=9", 2, 5),
-        ("<a@b><c@d>", 2, 5),
-    ];
-    for (text, at, end) in cases {
+    for (text, at, end) in PATHS {
         check_eq(reading(text.as_bytes()), (0, at, end)).note(text)?;
     }
     Ok(())
 }
 
+const FAULTS: [(&str, u8); 45] = [
+    // no "<"
+    ("", 1),
+    (" <a@b>", 1),
+    ("a@b>", 1),
+    (">", 1),
+    // no local part
+    ("<", 2),
+    ("<>", 2),
+    ("<@b>", 2),
+    ("< a@b>", 2),
+    ("<(@b>", 2),
+    ("<.a@b>", 2),
+    ("<a.@b>", 2),
+    ("<a..b@c>", 2),
+    ("<.>", 2),
+    // a quote mark that is not closed
+    ("<\"", 2),
+    ("<\"a@b>", 2),
+    ("<\"a\\", 2),
+    ("<\"a\\\"@b>", 2),
+    ("<\"\\\\\\\"@b>", 2),
+    // no "@"
+    ("<a", 3),
+    ("<a>", 3),
+    ("<a b@c>", 3),
+    ("<a,b@c>", 3),
+    ("<a\\@b@c>", 3),
+    ("<a\"b\"@c>", 3),
+    ("<\"a\"b@c>", 3),
+    ("<\"a\".b@c>", 3),
+    ("<Postmaster>", 3),
+    // no domain
+    ("<a@", 3),
+    ("<a@>", 3),
+    ("<a@.>", 3),
+    ("<a@.b>", 3),
+    ("<a@b.>", 3),
+    ("<a@b..c>", 3),
+    ("<a@->", 3),
+    ("<a@-b>", 3),
+    ("<a@b->", 3),
+    ("<a@b-.c>", 3),
+    ("<a@b.-c>", 3),
+    ("<a@[1.2]>", 3),
+    ("<a@_b>", 3),
+    // no ">"
+    ("<a@b", 4),
+    ("<a@b >", 4),
+    ("<a@b@c>", 4),
+    ("<a@b_c>", 4),
+    ("<a@b.c<", 4),
+];
+
 #[test]
 fn of_faults() -> Result<(), Fail> {
-    let cases = [
-        // no "<"
-        ("", 1),
-        (" <a@b>", 1),
-        ("a@b>", 1),
-        (">", 1),
-        // no local part
-        ("<", 2),
-        ("<>", 2),
-        ("<@b>", 2),
-        ("< a@b>", 2),
-        ("<(@b>", 2),
-        ("<.a@b>", 2),
-        ("<a.@b>", 2),
-        ("<a..b@c>", 2),
-        ("<.>", 2),
-        // a quote mark that is not closed
-        ("<\"", 2),
-        ("<\"a@b>", 2),
-        ("<\"a\\", 2),
-        ("<\"a\\\"@b>", 2),
-        ("<\"\\\\\\\"@b>", 2),
-        // no "@"
-        ("<a", 3),
-        ("<a>", 3),
-        ("<a b@c>", 3),
-        ("<a,b@c>", 3),
-        ("<a\\@b@c>", 3),
-        ("<a\"b\"@c>", 3),
-        ("<\"a\"b@c>", 3),
-        ("<\"a\".b@c>", 3),
-        ("<Postmaster>", 3),
-        // no domain
-        ("<a@", 3),
-        ("<a@>", 3),
-        ("<a@.>", 3),
-        ("<a@.b>", 3),
-        ("<a@b.>", 3),
-        ("<a@b..c>", 3),
-        ("<a@->", 3),
-        ("<a@-b>", 3),
-        ("<a@b->", 3),
-        ("<a@b-.c>", 3),
-        ("<a@b.-c>", 3),
-        ("<a@[1.2]>", 3),
-        ("<a@_b>", 3),
-        // no ">"
-        ("<a@b", 4),
-        ("<a@b >", 4),
-        ("<a@b@c>", 4),
-        ("<a@b_c>", 4),
-        ("<a@b.c<", 4),
-    ];
-    for (text, fault) in cases {
+    for (text, fault) in FAULTS {
         check_eq(reading(text.as_bytes()), (fault, 0, 0)).note(text)?;
     }
     Ok(())
 }
 
-// A label of 63 octets and a dot, and a label of 62.
+// A local part of 64 octets with what stands around it, and labels of 63 with a dot and with ">" behind.
+const LOCAL: &str = "<abcdefghijklmnopqrstuvwxyz.ABCDEFGHIJKLMNOPQRSTUVWXYZ.0123456789@";
+
 const LABEL: &str = "abcdefghijklmnopqrstuvwxyz-ABCDEFGHIJKLMNOPQRSTUVWXYZ-012345678.";
-const SHORTER: &str = "abcdefghijklmnopqrstuvwxyz-ABCDEFGHIJKLMNOPQRSTUVWXYZ-01234567";
+
+const LAST: &str = "abcdefghijklmnopqrstuvwxyz-ABCDEFGHIJKLMNOPQRSTUVWXYZ-012345678>";
+
+// a front, a piece so many times, a back; and what is read
+const LIMITS: [(&str, &str, usize, &str, (u8, usize, usize)); 20] = [
+    // local parts of 64 octets, and of more
+    ("<", "a", 64, "@b>", (0, 65, 68)),
+    ("<", "a", 65, "@b>", (2, 0, 0)),
+    ("<", "a.", 31, "bc@d>", (0, 65, 68)),
+    ("<", "a.", 32, "b@c>", (2, 0, 0)),
+    ("<\"", "a", 62, "\"@b>", (0, 65, 68)),
+    ("<\"", "a", 63, "\"@b>", (2, 0, 0)),
+    ("<\"", "\\\"", 31, "\"@b>", (0, 65, 68)),
+    ("<\"", "\\\"", 31, "a\"@b>", (2, 0, 0)),
+    // the local part is judged first
+    ("<", "a", 65, ">", (2, 0, 0)),
+    ("<", "a", 64, ">", (3, 0, 0)),
+    // labels of 63 octets, and of 64
+    ("<a@", "b", 63, ">", (0, 2, 67)),
+    ("<a@", "b", 64, ">", (3, 0, 0)),
+    ("<a@b.", "c", 63, ".d>", (0, 2, 71)),
+    ("<a@b.", "c", 64, ".d>", (3, 0, 0)),
+    // domains of 255 octets, and of 256
+    ("<a@", "b.", 127, "c>", (0, 2, 259)),
+    ("<a@", "b.", 127, "cd>", (3, 0, 0)),
+    ("<a@", LABEL, 3, LAST, (0, 2, 259)),
+    ("<a@b.", LABEL, 3, LAST, (3, 0, 0)),
+    ("<a@", LABEL, 4, ">", (3, 0, 0)),
+    (LOCAL, LABEL, 3, LAST, (0, 65, 322)),
+];
 
 #[test]
 fn at_the_limits(rt: LibcRuntime) -> Result<(), Fail> {
-    // a front, a piece so many times, a back; and what is read
-    let cases = [
-        // local parts of 64 octets, and of more
-        ("<", "a", 64, "@b>", (0, 65, 68)),
-        ("<", "a", 65, "@b>", (2, 0, 0)),
-        ("<", "a.", 31, "bc@d>", (0, 65, 68)),
-        ("<", "a.", 32, "b@c>", (2, 0, 0)),
-        ("<\"", "a", 62, "\"@b>", (0, 65, 68)),
-        ("<\"", "a", 63, "\"@b>", (2, 0, 0)),
-        ("<\"", "\\\"", 31, "\"@b>", (0, 65, 68)),
-        ("<\"", "\\\"", 31, "a\"@b>", (2, 0, 0)),
-        // the local part is judged first
-        ("<", "a", 65, ">", (2, 0, 0)),
-        // labels of 63 octets, and of 64
-        ("<a@", "b", 63, ">", (0, 2, 67)),
-        ("<a@", "b", 64, ">", (3, 0, 0)),
-        ("<a@b.", "c", 63, ".d>", (0, 2, 71)),
-        ("<a@b.", "c", 64, ".d>", (3, 0, 0)),
-        // domains of 255 octets, and of 256
-        ("<a@", "b.", 127, "c>", (0, 2, 259)),
-        ("<a@", "b.", 127, "cd>", (3, 0, 0)),
-        ("<a@b.", LABEL, 3, SHORTER, (3, 0, 0)),
-        ("<a@", LABEL, 3, SHORTER, (4, 0, 0)),
-        ("<a@", LABEL, 4, ">", (3, 0, 0)),
-        ("<\"\"@", LABEL, 3, "a.b>", (0, 3, 200)),
-        // and the longest of both
-        ("<", "a", 64, "@b", (4, 0, 0)),
-    ];
-    for (front, piece, count, back, read) in cases {
+    for (front, piece, count, back, read) in LIMITS {
         let octets = repeated(rt.alloc(), front, piece, count, back)?;
         check_eq(reading(octets.as_slice()), read).note(count)?;
     }
