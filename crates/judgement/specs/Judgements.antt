@@ -70,12 +70,12 @@ abbrev pub Unknown : Line → Type 0
 Unknown l = knows (l .kind) (verbIn l) ≡ false
 
 -- 3: it announces a chunk, and its argument is not that of a chunk.
-abbrev pub BadChunk : Line → Type 0
-BadChunk l = (isChunk (verbIn l) ≡ true) × ((c : Chunk) → IsChunk (argumentIn l) c → ⊥)
+abbrev pub BadChunk : Verb → List ℕ → Type 0
+BadChunk v xs = (isChunk v ≡ true) × ((c : Chunk) → IsChunk xs c → ⊥)
 
 -- 4: its verb is not heard in this phase.
-abbrev pub OutOfOrder : Line → Type 0
-OutOfOrder l = heardIn (l .phase) (verbIn l) ≡ false
+abbrev pub OutOfOrder : Phase → Verb → Type 0
+OutOfOrder phase v = heardIn phase v ≡ false
 
 -- The reply to a fault of the argument of MAIL or RCPT.
 abbrev pub replyTo : LineFault → Reply
@@ -138,18 +138,16 @@ Argued area verb.Unknown xs j = ⊥
 abbrev pub First : Type 0 → Type 0 → Type 0 → Type 0
 First Ground Answer Later = (Ground × Answer) ⊎ ((Ground → ⊥) × Later)
 
+-- Of a readable line with a known verb: the grounds from the third on.
+abbrev pub FromThird : Phase → ℕ → Verb → List ℕ → Judged → Type 0
+FromThird phase area v xs j =
+    First (BadChunk v xs) (j ≡ judged.Refused reply.BadArgument true)
+    (First (OutOfOrder phase v) (j ≡ refusal reply.OutOfOrder) (Argued area v xs j))
+
 -- The first ground that holds decides. An unreadable line that announces a chunk ends the session, and so does a bad chunk,
 -- since where the next line begins is then not known.
 abbrev pub JudgedAs : Line → Judged → Type 0
 JudgedAs l j =
     First (Unreadable l) (j ≡ judged.Refused reply.UnknownCommand (isChunk (verbIn l)))
     (First (Unknown l) (j ≡ refusal reply.UnknownCommand)
-    (First (BadChunk l) (j ≡ judged.Refused reply.BadArgument true)
-    (First (OutOfOrder l) (j ≡ refusal reply.OutOfOrder)
-    (Argued (l .area) (verbIn l) (argumentIn l) j))))
-
--- Of a readable line with a known verb: the grounds from the third on.
-abbrev pub FromThird : Phase → ℕ → Verb → List ℕ → Judged → Type 0
-FromThird phase area v xs j =
-    First ((isChunk v ≡ true) × ((c : Chunk) → IsChunk xs c → ⊥)) (j ≡ judged.Refused reply.BadArgument true)
-    (First (heardIn phase v ≡ false) (j ≡ refusal reply.OutOfOrder) (Argued area v xs j))
+    (FromThird (l .phase) (l .area) (verbIn l) (argumentIn l) j))

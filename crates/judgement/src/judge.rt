@@ -151,6 +151,20 @@ fn judge_chunk(phase: Phase, verb: Verb, argument: &[u8], area: usize) -> Judged
     }
 }
 
+// A readable line whose verb the session's protocol has.
+fn judge_known(phase: Phase, verb: Verb, argument: &[u8], area: usize) -> Judged
+    requires { ⌜ (verb ≡ the-variants.Unknown → ⊥) ⌝ }
+    ensures { λ r. ⌜ FromThird phase area verb (now (argument .entry)) r ⌝ }
+{
+    if is_chunk(verb) {
+        return judge_chunk(phase, verb, argument, area);
+    }
+    if !heard(phase, verb) {
+        return refusal(Reply::OutOfOrder);
+    }
+    judge_argument(verb, argument, area)
+}
+
 // What a line is: the first ground that holds decides.
 pub fn judge(kind: Kind, phase: Phase, text: &[u8], long: bool, area: usize) -> Judged
     ensures { λ r. ⌜ JudgedAs (record { kind = kind; phase = phase; area = area; octets = now (text .entry); long = long }) r ⌝ }
@@ -158,21 +172,14 @@ pub fn judge(kind: Kind, phase: Phase, text: &[u8], long: bool, area: usize) -> 
     let line = trimmed(text);
     let verb = verb_of(line);
     let argument = argument_of(line);
-    let chunk = is_chunk(verb);
     if long || !is_printable(line) {
         return Judged::Refused {
             reply: Reply::UnknownCommand,
-            ends: chunk,
+            ends: is_chunk(verb),
         };
     }
     if !is_known(kind, verb) {
         return refusal(Reply::UnknownCommand);
     }
-    if chunk {
-        return judge_chunk(phase, verb, argument, area);
-    }
-    if !heard(phase, verb) {
-        return refusal(Reply::OutOfOrder);
-    }
-    judge_argument(verb, argument, area)
+    judge_known(phase, verb, argument, area)
 }
