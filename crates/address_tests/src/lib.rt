@@ -1,4 +1,6 @@
 // Tests of paths, of their parts and of directories.
+#![tactic(auto)]
+
 #[cfg(test)]
 mod builds;
 #[cfg(test)]

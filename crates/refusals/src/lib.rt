@@ -1,3 +1,5 @@
 // Why calls are refused: one list for every public call of the receiver.
+#![tactic(auto)]
+
 pub mod refusal;
 pub mod text;

@@ -1,4 +1,6 @@
 // Files reports from standard input for their mailboxes, in a spool that the argument chooses, and collects them in order.
+#![tactic(auto)]
+
 mod choice;
 mod lines;
 mod names;

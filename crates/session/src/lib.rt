@@ -1,4 +1,6 @@
 // One conversation: from octets to replies, and to the message ends that the receiver carries out.
+#![tactic(auto)]
+
 mod chunk;
 mod command;
 pub mod hear;

@@ -1,4 +1,6 @@
 // What every layer of the receiver shares: the ordered list, the spool interface and the ticket.
+#![tactic(auto)]
+
 pub mod entry;
 pub mod interface;
 pub mod list;

@@ -1,4 +1,6 @@
 // Tests of the stores and of the layers over them, as spools.
+#![tactic(auto)]
+
 #[cfg(test)]
 mod builds;
 #[cfg(test)]

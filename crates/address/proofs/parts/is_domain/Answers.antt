@@ -8,8 +8,8 @@ returns-in-Some c =
     let s = c.args.s.now in
     let n = c.in-Some.n in
     let d = c.in-Some.ensures in (
-      λ e. whole_domain s n d (eqb-true n (length s) (sym c.is-all.ensures ∙ e)),
-      λ h. c.is-all.ensures ∙ eq-eqb n (length s) (d.longest ∙ sym (domain-whole s h).longest),
+      λ e. whole_domain s n d (eqb-true n (length s) (sym c.is_all.ensures ∙ e)),
+      λ h. c.is_all.ensures ∙ eq-eqb n (length s) (d.longest ∙ sym (domain-whole s h).longest),
     )
 
 pub returns-in-None : goal.returns-in-None

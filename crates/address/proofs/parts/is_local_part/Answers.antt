@@ -8,8 +8,8 @@ returns-in-Some c =
     let s = c.args.s.now in
     let n = c.in-Some.octets in
     let d = c.in-Some.ensures in (
-      λ e. whole_local s n d.holds (eqb-true n (length s) (sym c.is-all.ensures ∙ e)),
-      λ h. c.is-all.ensures ∙ eq-eqb n (length s) (sym (d.alone (length s) (local-whole s h))),
+      λ e. whole_local s n d.holds (eqb-true n (length s) (sym c.is_all.ensures ∙ e)),
+      λ h. c.is_all.ensures ∙ eq-eqb n (length s) (sym (d.alone (length s) (local-whole s h))),
     )
 
 pub returns-in-None : goal.returns-in-None

@@ -28,25 +28,25 @@ pub returns-then-end-s : goal.returns-then-end-s
 returns-then-end-s c =
     let p = word_octet c.args.word in
     let s = c.args.s.now in
-    let end = c.word-end-end.result in
+    let end = c.word_end-end.result in
     let none : end < length s → get_or s end 0 ≡ 46 → ⊥ =
     elim c.then-end-s.branch [
       | then-end-s-via-then-end-s w ↦ λ l. absurd (omega (arith, w.if-end-s.true))
       | then-end-s-via-else-end-s+then-s-end-ne46 w ↦ λ _. w.if-s-end-ne46.true
     ] in
-    let l = word_last p (dotless c.args.word) (IsWord c.args.word) s c.loop-word.start end c.word-end-end.ensures none in
-    let e : end ≡ prefix_len (or_dot p) s = omega (arith, l.0, c.loop-word.invariant.1, c.word-end-end.ensures) in (
+    let l = word_last p (dotless c.args.word) (IsWord c.args.word) s c.loop-word.start end c.word_end-end.ensures none in
+    let e : end ≡ prefix_len (or_dot p) s = omega (arith, l.0, c.loop-word.invariant.1, c.word_end-end.ensures) in (
       e,
       subst (λ (n : ℕ). Dotted c.args.word (take n s)) (sym e)
-          (c.loop-word.invariant.2 (subst (All (IsWord c.args.word)) (sym l.1) (c.if-not-is-word.ensures.0 refl, tt))),
+          (c.loop-word.invariant.2 (subst (All (IsWord c.args.word)) (sym l.1) (c.if-not-is_word.ensures.0 refl, tt))),
     )
 
 pub loop-word-preserved : goal.loop-word-preserved
 loop-word-preserved c =
     let W = IsWord c.args.word in
-    let n = word_next (word_octet c.args.word) (dotless c.args.word) W c.args.s.now c.loop-word.start c.word-end-end.result c.word-end-end.ensures c.if-end-s.false c.if-s-end-ne46.false in (
+    let n = word_next (word_octet c.args.word) (dotless c.args.word) W c.args.s.now c.loop-word.start c.word_end-end.result c.word_end-end.ensures c.if-end-s.false c.if-s-end-ne46.false in (
       omega (arith, c.if-end-s.false),
       sym n.0 ∙ c.loop-word.invariant.1,
-      λ h. c.loop-word.invariant.2 (subst (All W) (sym n.1) (c.if-not-is-word.ensures.0 refl, h)),
+      λ h. c.loop-word.invariant.2 (subst (All W) (sym n.1) (c.if-not-is_word.ensures.0 refl, h)),
       λ h. (subst (All W) n.1 (c.loop-word.invariant.3 h)).1,
     )
