@@ -8,12 +8,12 @@ pub returns-then-eq : goal.returns-then-eq
 returns-then-eq c =
     (λ _. inl ((slice_eq-Decides Decides-eqb c.args.a.now c.args.b.now c.eq.result c.eq.ensures).0 c.if-eq.true), λ _. refl)
 
-pub returns-else-is-postmaster : goal.returns-else-is-postmaster
-returns-else-is-postmaster c =
+pub returns-else-is_postmaster : goal.returns-else-is_postmaster
+returns-else-is_postmaster c =
     let d = slice_eq-Decides Decides-eqb c.args.a.now c.args.b.now c.eq.result c.eq.ensures in (
-      λ e. absurd (false≢true (sym c.if-is-postmaster.false ∙ e)),
+      λ e. absurd (false≢true (sym c.if-is_postmaster.false ∙ e)),
       λ h. elim h [
         | inl e ↦ absurd (false≢true (sym c.if-eq.false ∙ d.1 e))
-        | inr k ↦ c.is-postmaster.ensures.1 k.0
+        | inr k ↦ c.is_postmaster.ensures.1 k.0
       ],
     )

@@ -7,22 +7,22 @@ use Rattle.address.proofs.Runs.{word_within, word_octets, word_first, word_last,
 use Rattle.address.proofs.words.dotted.Goals as goal
 use Rattle.address.proofs.words.dotted.Goals.{then-end-s-via-then-end-s, then-end-s-via-else-end-s+then-s-end-ne46}
 
-pub is-word-requires : goal.is-word-requires
-is-word-requires c =
+pub is_word-requires : goal.is_word-requires
+is_word-requires c =
     let p = word_octet c.args.word in
     let d = dotless c.args.word in
     let W = IsWord c.args.word in
     record {
-      ordered = omega (arith, c.word-end-end.ensures);
-      within = word_within p d W c.args.s.now c.loop-word.start c.word-end-end.result c.word-end-end.ensures c.loop-word.invariant.0;
-      octets = word_octets p d W c.args.s.now c.loop-word.start c.word-end-end.result c.word-end-end.ensures;
+      ordered = omega (arith, c.word_end-end.ensures);
+      within = word_within p d W c.args.s.now c.loop-word.start c.word_end-end.result c.word_end-end.ensures c.loop-word.invariant.0;
+      octets = word_octets p d W c.args.s.now c.loop-word.start c.word_end-end.result c.word_end-end.ensures;
     }
 
-pub returns-then-not-is-word : goal.returns-then-not-is-word
-returns-then-not-is-word c h =
+pub returns-then-not-is_word : goal.returns-then-not-is_word
+returns-then-not-is_word c h =
     let p = word_octet c.args.word in
-    let w = word_first p (dotless c.args.word) (IsWord c.args.word) c.args.s.now c.loop-word.start c.word-end-end.result c.word-end-end.ensures (c.loop-word.invariant.3 h) in
-    true≢false (sym (c.is-word.ensures.1 w) ∙ c.if-not-is-word.true)
+    let w = word_first p (dotless c.args.word) (IsWord c.args.word) c.args.s.now c.loop-word.start c.word_end-end.result c.word_end-end.ensures (c.loop-word.invariant.3 h) in
+    true≢false (sym (c.is_word.ensures.1 w) ∙ c.if-not-is_word.true)
 
 pub returns-then-end-s : goal.returns-then-end-s
 returns-then-end-s c =

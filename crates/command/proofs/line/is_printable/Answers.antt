@@ -9,15 +9,15 @@ use Rattle.command.proofs.line.is_printable.Goals as goal
 abbrev Passes : ℕ → Type 0
 Passes x = printable x ≡ true
 
-pub returns-then-not-is-in : goal.returns-then-not-is-in
-returns-then-not-is-in c = (
+pub returns-then-not-is_in : goal.returns-then-not-is_in
+returns-then-not-is_in c = (
   λ e. absurd (false≢true e),
-  λ h. absurd (true≢false (sym (All-get_or Passes c.args.line.now c.loop-x.x-index 0 c.loop-x-test.true h) ∙ sym c.if-not-is-in.ensures)),
+  λ h. absurd (true≢false (sym (All-get_or Passes c.args.line.now c.loop-x.x-index 0 c.loop-x-test.true h) ∙ sym c.if-not-is_in.ensures)),
 )
 
 pub loop-x-preserved : goal.loop-x-preserved
 loop-x-preserved c =
-    All-more Passes c.args.line.now c.loop-x.x-index 0 c.loop-x-test.true c.loop-x.invariant (sym c.if-not-is-in.ensures)
+    All-more Passes c.args.line.now c.loop-x.x-index 0 c.loop-x-test.true c.loop-x.invariant (sym c.if-not-is_in.ensures)
 
 pub returns : goal.returns
 returns c =

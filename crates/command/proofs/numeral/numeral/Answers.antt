@@ -7,12 +7,12 @@ use Rattle.command.proofs.numeral.numeral.Goals as goal
 
 pub returns-then-count-eq0 : goal.returns-then-count-eq0
 returns-then-count-eq0 c n h =
-    omega (arith, c.then-count-eq0.either, numeral_count c.args.s.now c.leading-digits-count.result.0 c.leading-digits-count.ensures.count c.args.most n h, h.some, h.few)
+    omega (arith, c.then-count-eq0.either, numeral_count c.args.s.now c.leading_digits-count.result.0 c.leading_digits-count.ensures.count c.args.most n h, h.some, h.few)
 
 pub returns : goal.returns
 returns c =
     let s = c.args.s.now in (
       decimal_value (run is_ascii_digit s),
-      numeral_from s c.leading-digits-count.result.0 c.leading-digits-count.ensures.count c.args.most c.if-count-eq0.false c.if-count-most.false c.if-count-s.false,
-      c.leading-digits-count.ensures.value,
+      numeral_from s c.leading_digits-count.result.0 c.leading_digits-count.ensures.count c.args.most c.if-count-eq0.false c.if-count-most.false c.if-count-s.false,
+      c.leading_digits-count.ensures.value,
     )

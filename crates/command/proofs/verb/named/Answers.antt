@@ -7,16 +7,16 @@ use Rattle.command.specs.declared.verb.Verb.{Verb}
 use Rattle.command.proofs.Naming.{named_here, named_past}
 use Rattle.command.proofs.verb.named.Goals as goal
 
-pub returns-then-eq-ignore-ascii-case : goal.returns-then-eq-ignore-ascii-case
-returns-then-eq-ignore-ascii-case c =
+pub returns-then-eq_ignore_ascii_case : goal.returns-then-eq_ignore_ascii_case
+returns-then-eq_ignore_ascii_case c =
     named_here verbs c.loop-i.i c.args.word.now c.loop-i-test.true
-    ((cases_from_iff c.if-eq-ignore-ascii-case.ensures.test) ∙ ap (map to_ascii_lowercase) c.name.ensures)
+    ((cases_from_iff c.if-eq_ignore_ascii_case.ensures.test) ∙ ap (map to_ascii_lowercase) c.name.ensures)
     ∙ c.loop-i.invariant
 
 pub loop-i-preserved : goal.loop-i-preserved
 loop-i-preserved c =
     named_past verbs c.loop-i.i c.args.word.now c.loop-i-test.true
-    (λ e. (cases_from_iff c.if-eq-ignore-ascii-case.ensures.test) (e ∙ ap (map to_ascii_lowercase) (sym c.name.ensures)))
+    (λ e. (cases_from_iff c.if-eq_ignore_ascii_case.ensures.test) (e ∙ ap (map to_ascii_lowercase) (sym c.name.ensures)))
     ∙ c.loop-i.invariant
 
 pub returns : goal.returns

@@ -7,17 +7,17 @@ use Rattle.directory.specs.Rows.{GoodRow}
 use Rattle.directory.specs.Fitting.{no_row}
 use Rattle.directory.proofs.spelling.all_good.Goals as goal
 
-pub returns-then-not-is-good : goal.returns-then-not-is-good
-returns-then-not-is-good c = (
+pub returns-then-not-is_good : goal.returns-then-not-is_good
+returns-then-not-is_good c = (
   λ e. absurd (false≢true e),
-  λ h. c.if-not-is-good.ensures.1
+  λ h. c.if-not-is_good.ensures.1
       (All-get_or (GoodRow c.args.kind c.args.text.now) c.args.rows.now c.loop-i.i no_row c.loop-i-test.true h),
 )
 
 pub loop-i-preserved : goal.loop-i-preserved
 loop-i-preserved c =
     All-more (GoodRow c.args.kind c.args.text.now) c.args.rows.now c.loop-i.i no_row c.loop-i-test.true
-    c.loop-i.invariant (c.if-not-is-good.ensures.0 refl)
+    c.loop-i.invariant (c.if-not-is_good.ensures.0 refl)
 
 pub returns : goal.returns
 returns c = (

@@ -5,8 +5,8 @@ use Rattle.directory.proofs.spelling.cut.Goals as goal
 pub returns : goal.returns
 returns c =
     let s = c.args.s.now in
-    let n = c.domain-start-n.result in
-    let e = c.domain-start-n.ensures in
+    let n = c.domain_start-n.result in
+    let e = c.domain_start-n.ensures in
     record {
       before = cut-before s n e.is;
       behind = cut-behind s n e.is;

@@ -7,5 +7,5 @@ pub returns-in-Domains : goal.returns-in-Domains
 returns-in-Domains c =
     let row = c.args.row.now in
     let domain = c.args.domain.now in
-    same_domain_is c.same-domain.result row domain c.same-domain.ensures
+    same_domain_is c.same_domain.result row domain c.same_domain.ensures
     ∙ ap (λ k. fits_row k row c.args.local.now domain) (sym c.in-Domains.is)

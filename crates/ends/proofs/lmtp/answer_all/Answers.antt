@@ -12,8 +12,8 @@ pub loop-i-init : goal.loop-i-init
 loop-i-init g c =
     (each_none g.S.Spool.held g.S.Spool.lot g.S.Spool.room c.args.ledger.now c.args.spool.now c.requires.idle, refl, refl, λ w. w)
 
-pub answer-one-requires : goal.answer-one-requires
-answer-one-requires g c =
+pub answer_one-requires : goal.answer_one-requires
+answer_one-requires g c =
     let p = c.args.payload.now in
     let rs = c.args.recipients.now in
     let i = c.loop-i.i in
@@ -27,21 +27,21 @@ loop-i-preserved g c =
     let lot = g.S.Spool.lot in
     let room = g.S.Spool.room in
     let l = c.args.ledger.now in
-    let k = c.answer-one.new.ledger in
+    let k = c.answer_one.new.ledger in
     let s = c.args.spool.now in
-    let s' = c.answer-one.new.spool in
+    let s' = c.answer_one.new.spool in
     let p = c.args.payload.now in
     let rs = c.args.recipients.now in
     let i = c.loop-i.i in
     let bs = c.loop-i.replies in
-    let b = c.answer-one.result in
+    let b = c.answer_one.result in
     let es = map (entry p) (take i rs) in
-    let a = each_more held lot room l c.loop-i.ledger k s c.loop-i.spool s' es (take i bs) (entry p (get_or rs i 0)) b c.loop-i.invariant.0 c.answer-one.ensures.answered c.answer-one.ensures.counted in
+    let a = each_more held lot room l c.loop-i.ledger k s c.loop-i.spool s' es (take i bs) (entry p (get_or rs i 0)) b c.loop-i.invariant.0 c.answer_one.ensures.answered c.answer_one.ensures.counted in
     let d = subst (λ (x : List Entry). EachFiled held lot room l k s s' x (take i bs ++ b ∷ [])) (sym (entries_more p rs i c.loop-i-test.true)) a in (
       subst (λ (x : List Reply). EachFiled held lot room l k s s' (map (entry p) (take (i + 1) rs)) x) (sym (take_more_set bs i b (omega arith))) d,
       drop-set-lt (length rs) bs i b c.loop-i-test.true ∙ c.loop-i.invariant.1,
-      c.answer-one.ensures.floor ∙ c.loop-i.invariant.2,
-      λ w. c.answer-one.ensures.within (c.loop-i.invariant.3 w),
+      c.answer_one.ensures.floor ∙ c.loop-i.invariant.2,
+      λ w. c.answer_one.ensures.within (c.loop-i.invariant.3 w),
     )
 
 pub returns : goal.returns

@@ -12,7 +12,7 @@ returns-in-Ok g c =
     let t = c.in-Ok.ensures in
     record {
       answered = answered-filed refl t.alone.0 t.alone.1;
-      counted = counted_any l c.note-filed.new.self [] c.args.payload.now (c.args.recipient ∷ []) c.note-filed.ensures;
+      counted = counted_any l c.note_filed.new.self [] c.args.payload.now (c.args.recipient ∷ []) c.note_filed.ensures;
       floor = t.floor;
       within = t.within;
     }
@@ -23,7 +23,7 @@ returns-in-Err g c =
     let l = c.args.ledger.now in
     let t = c.in-Err.ensures in
     record {
-      answered = answered-fault g.S.Spool.held g.S.Spool.lot g.S.Spool.room (counts_of c.args.before.now) c.args.spool.now c.try-one.new.spool e c.in-Err.fault c.from.result c.from.ensures t.alone;
+      answered = answered-fault g.S.Spool.held g.S.Spool.lot g.S.Spool.room (counts_of c.args.before.now) c.args.spool.now c.try_one.new.spool e c.in-Err.fault c.from.result c.from.ensures t.alone;
       counted = subst (λ (x : List Entry). Counted l l x) (kept-fault e c.in-Err.fault c.from.result c.from.ensures) (counted_none l);
       floor = t.floor;
       within = t.within;

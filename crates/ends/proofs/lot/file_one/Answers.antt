@@ -7,8 +7,8 @@ use Rattle.ends.specs.Filing.{entry}
 use Rattle.ends.proofs.Faulting.{same-fault, declined}
 use Rattle.ends.proofs.lot.file_one.Goals as goal
 
-pub fault-of-requires : goal.fault-of-requires
-fault-of-requires g c =
+pub fault_of-requires : goal.fault_of-requires
+fault_of-requires g c =
     let e = entry c.args.payload.now c.args.recipient in
     let d = declined g.S.Spool.held g.S.Spool.lot g.S.Spool.room c.args.spool.now c.file.new.spool e (notice c.in-Err.refusal) (omega arith) c.requires c.in-Err.ensures.files in
     ap (λ (n : Notice). n.number) d.1.0
@@ -19,7 +19,7 @@ returns-in-Err g c =
     let f = c.in-Err.ensures in
     let d = declined g.S.Spool.held g.S.Spool.lot g.S.Spool.room c.args.spool.now c.file.new.spool e (notice c.in-Err.refusal) (omega arith) c.requires f.files in
     record {
-      lot = subst (λ (x : RoomFault). Turned g.S.Spool.held g.S.Spool.lot g.S.Spool.room c.args.spool.now c.file.new.spool e x) (same-fault d.0 c.fault-of.result (sym d.1.0 ∙ c.fault-of.ensures)) d.1.1;
+      lot = subst (λ (x : RoomFault). Turned g.S.Spool.held g.S.Spool.lot g.S.Spool.room c.args.spool.now c.file.new.spool e x) (same-fault d.0 c.fault_of.result (sym d.1.0 ∙ c.fault_of.ensures)) d.1.1;
       floor = f.floor;
       within = f.within;
     }

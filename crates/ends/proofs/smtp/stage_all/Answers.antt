@@ -13,28 +13,28 @@ loop-r-init g c = (c.requires, refl, refl, λ w. w)
 
 pub loop-r-preserved : goal.loop-r-preserved
 loop-r-preserved g c =
-    let st = c.in-ok-stage-one.ensures in (
+    let st = c.in_ok-stage_one.ensures in (
       ap is_some st.tried.grows,
-      staged_more g.S.Spool.held g.S.Spool.lot g.S.Spool.room (counts_of c.args.ledger.now) c.args.spool.now c.loop-r.spool c.stage-one.new.spool c.args.payload.now c.args.recipients.now c.loop-r.r-index c.loop-r-test.true c.loop-r.invariant.1 (ltb-false _ _ (sym c.if-is-full.ensures)) st.tried,
+      staged_more g.S.Spool.held g.S.Spool.lot g.S.Spool.room (counts_of c.args.ledger.now) c.args.spool.now c.loop-r.spool c.stage_one.new.spool c.args.payload.now c.args.recipients.now c.loop-r.r-index c.loop-r-test.true c.loop-r.invariant.1 (ltb-false _ _ (sym c.if-is_full.ensures)) st.tried,
       st.floor ∙ c.loop-r.invariant.2,
       λ w. st.within (c.loop-r.invariant.3 w),
     )
 
-pub returns-in-err-stage-one : goal.returns-in-err-stage-one
-returns-in-err-stage-one g c =
+pub returns-in_err-stage_one : goal.returns-in_err-stage_one
+returns-in_err-stage_one g c =
     let p = err_from_is_err_and c.from-residual.result c.from-residual.ensures.1 in
-    let st = c.in-err-stage-one.ensures in
-    let w : Why g.S.Spool.held g.S.Spool.lot g.S.Spool.room (counts_of c.args.ledger.now) c.loop-r.spool (entry c.args.payload.now (get_or c.args.recipients.now c.loop-r.r-index 0)) (Room c.in-err-stage-one.field-0.0) = (ltb-false _ _ (sym c.if-is-full.ensures), st.tried.0) in
-    let f = first-fault g.S.Spool.held g.S.Spool.lot g.S.Spool.room (counts_of c.args.ledger.now) c.args.spool.now c.loop-r.spool c.args.payload.now c.args.recipients.now c.loop-r.r-index (Room c.in-err-stage-one.field-0.0) c.loop-r-test.true c.loop-r.invariant.1 w in
+    let st = c.in_err-stage_one.ensures in
+    let w : Why g.S.Spool.held g.S.Spool.lot g.S.Spool.room (counts_of c.args.ledger.now) c.loop-r.spool (entry c.args.payload.now (get_or c.args.recipients.now c.loop-r.r-index 0)) (Room c.in_err-stage_one.field-0.0) = (ltb-false _ _ (sym c.if-is_full.ensures), st.tried.0) in
+    let f = first-fault g.S.Spool.held g.S.Spool.lot g.S.Spool.room (counts_of c.args.ledger.now) c.args.spool.now c.loop-r.spool c.args.payload.now c.args.recipients.now c.loop-r.r-index (Room c.in_err-stage_one.field-0.0) c.loop-r-test.true c.loop-r.invariant.1 w in
     rw (p.1, p.2) (record {
-      staging = subst (λ (x : g.row.S.Denot). FirstFault g.S.Spool.held g.S.Spool.lot g.S.Spool.room (counts_of c.args.ledger.now) c.args.spool.now x (map (entry c.args.payload.now) c.args.recipients.now) (Room c.in-err-stage-one.field-0.0)) (sym st.tried.1) f;
+      staging = subst (λ (x : g.row.S.Denot). FirstFault g.S.Spool.held g.S.Spool.lot g.S.Spool.room (counts_of c.args.ledger.now) c.args.spool.now x (map (entry c.args.payload.now) c.args.recipients.now) (Room c.in_err-stage_one.field-0.0)) (sym st.tried.1) f;
       floor = st.floor ∙ c.loop-r.invariant.2;
       within = λ w. st.within (c.loop-r.invariant.3 w);
     })
 
-pub returns-then-is-full : goal.returns-then-is-full
-returns-then-is-full g c = record {
-  staging = first-fault g.S.Spool.held g.S.Spool.lot g.S.Spool.room (counts_of c.args.ledger.now) c.args.spool.now c.loop-r.spool c.args.payload.now c.args.recipients.now c.loop-r.r-index Ledger c.loop-r-test.true c.loop-r.invariant.1 (ltb-true _ _ (sym c.if-is-full.ensures));
+pub returns-then-is_full : goal.returns-then-is_full
+returns-then-is_full g c = record {
+  staging = first-fault g.S.Spool.held g.S.Spool.lot g.S.Spool.room (counts_of c.args.ledger.now) c.args.spool.now c.loop-r.spool c.args.payload.now c.args.recipients.now c.loop-r.r-index Ledger c.loop-r-test.true c.loop-r.invariant.1 (ltb-true _ _ (sym c.if-is_full.ensures));
   floor = c.loop-r.invariant.2;
   within = c.loop-r.invariant.3;
 }

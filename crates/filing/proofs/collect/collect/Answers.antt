@@ -21,12 +21,12 @@ returns-then-found-buffer g c =
       within = λ w. w;
     }
 
-pub returns-then-lot-is-open : goal.returns-then-lot-is-open
-returns-then-lot-is-open g c =
+pub returns-then-lot_is_open : goal.returns-then-lot_is_open
+returns-then-lot_is_open g c =
     let s = c.args.spool.now in
     let f = c.in-Some.ensures in
     record {
-      answer = collects-busy c.args.mailbox (g.S.Spool.lot s) (g.S.Spool.held s) f.entry f.first (omega arith) (length c.args.buffer.now) (omega (arith, f.long)) (sym c.lot-is-open.ensures ∙ c.if-lot-is-open.true);
+      answer = collects-busy c.args.mailbox (g.S.Spool.lot s) (g.S.Spool.held s) f.entry f.first (omega arith) (length c.args.buffer.now) (omega (arith, f.long)) (sym c.lot_is_open.ensures ∙ c.if-lot_is_open.true);
       refused = λ _. (refl, refl);
       held = λ h. absurd (false≢true h);
       buffer = λ h. absurd (false≢true h);
@@ -42,7 +42,7 @@ returns g c =
     let f = c.in-Some.ensures in
     let e = f.entry in
     let at = c.in-Some.found.at in
-    let o : g.S.Spool.lot s ≡ None = no_lot (g.S.Spool.lot s) (sym c.lot-is-open.ensures ∙ c.if-lot-is-open.false) in
+    let o : g.S.Spool.lot s ≡ None = no_lot (g.S.Spool.lot s) (sym c.lot_is_open.ensures ∙ c.if-lot_is_open.false) in
     let w : length e.payload ≤ length b = omega (arith, f.long) in
     record {
       answer = ap (λ v. Ok v) f.long ∙ collects_done c.args.mailbox (g.S.Spool.lot s) (g.S.Spool.held s) e f.first (omega arith) (length b) w o;

@@ -8,7 +8,7 @@ use Rattle.filing.proofs.collect.find.Goals as goal
 pub unreachable-requires : goal.unreachable-requires
 unreachable-requires g c =
     let h = g.S.Spool.held c.args.spool.now in
-    omega (arith, past_end h c.loop-at.at _ c.in-default.ensures, c.count-at-end.ensures)
+    omega (arith, past_end h c.loop-at.at _ c.in_default.ensures, c.count-at-end.ensures)
 
 pub returns-then-summary-mailbox : goal.returns-then-summary-mailbox
 returns-then-summary-mailbox g c =

@@ -6,4 +6,4 @@ pub returns-in-Ok : goal.returns-in-Ok
 returns-in-Ok c = recipient c.in-Ok.line c.in-Ok.ensures refl
 
 pub returns-in-Err : goal.returns-in-Err
-returns-in-Err c = bad_rcpt c.reply-to.result (record { fault = c.in-Err.e; why = c.in-Err.ensures; tells = c.reply-to.ensures.answer }) c.refusal.ensures
+returns-in-Err c = bad_rcpt c.reply_to.result (record { fault = c.in-Err.e; why = c.in-Err.ensures; tells = c.reply_to.ensures.answer }) c.refusal.ensures

@@ -7,5 +7,5 @@ use Rattle.judgement.proofs.phase.takes_data.Goals as goal
 pub returns-in-Rcpt : goal.returns-in-Rcpt
 returns-in-Rcpt c = ap (λ p. among p (Rcpt ∷ [])) (sym c.in-Rcpt.is)
 
-pub returns-in-default : goal.returns-in-default
-returns-in-default c = no_data c.args.phase c.in-default.not-Rcpt
+pub returns-in_default : goal.returns-in_default
+returns-in_default c = no_data c.args.phase c.in_default.not-Rcpt

@@ -7,5 +7,5 @@ use Rattle.judgement.proofs.phase.takes_mail.Goals as goal
 pub returns-in-Greeted : goal.returns-in-Greeted
 returns-in-Greeted c = ap (λ p. among p (Greeted ∷ [])) (sym c.in-Greeted.is)
 
-pub returns-in-default : goal.returns-in-default
-returns-in-default c = no_mail c.args.phase c.in-default.not-Greeted
+pub returns-in_default : goal.returns-in_default
+returns-in_default c = no_mail c.args.phase c.in_default.not-Greeted

@@ -10,5 +10,5 @@ returns-in-Mail c = ap (λ p. among p (Mail ∷ Rcpt ∷ [])) (sym c.in-Mail.is)
 pub returns-in-Rcpt : goal.returns-in-Rcpt
 returns-in-Rcpt c = ap (λ p. among p (Mail ∷ Rcpt ∷ [])) (sym c.in-Rcpt.is)
 
-pub returns-in-default : goal.returns-in-default
-returns-in-default c = no_rcpt c.args.phase c.in-default.not-Mail c.in-default.not-Rcpt
+pub returns-in_default : goal.returns-in_default
+returns-in_default c = no_rcpt c.args.phase c.in_default.not-Mail c.in_default.not-Rcpt

@@ -21,7 +21,7 @@ returns c =
         rest = drop 12 s;
         spelt = c.if-not-stands.ensures.yes refl ∙ ap (λ v. 60 ∷ v)
             (sym (take-append-drop 10 (drop 1 s)) ∙ ap (λ v. take 10 (drop 1 s) ++ v) (drop-drop 10 1 s ∙ c.if-not-stands-2.ensures.yes refl));
-        is_postmaster = c.is-postmaster.ensures.0 e;
+        is_postmaster = c.is_postmaster.ensures.0 e;
       },
-      λ h. c.is-postmaster.ensures.1 (subst IsPostmaster (sym (postmaster-name s h)) h.is_postmaster),
+      λ h. c.is_postmaster.ensures.1 (subst IsPostmaster (sym (postmaster-name s h)) h.is_postmaster),
     )

@@ -3,6 +3,6 @@ use Rattle.paths.proofs.envelope.local_part_of.Goals as goal
 
 pub returns : goal.returns
 returns c = record {
-  value = c.local-octets.ensures;
-  meaning = local_means c.args.line.now c.args.path c.local-octets.result.now c.local-octets.ensures;
+  value = c.local_octets.ensures;
+  meaning = local_means c.args.line.now c.args.path c.local_octets.result.now c.local_octets.ensures;
 }

@@ -15,4 +15,4 @@ read_is (Ok p) h = ap (λ v. Ok v) (sym (h.alone short examples.reads))
 read_is (Err e) h = absurd (h.none short examples.reads)
 
 pub returns : goal.returns
-returns c = record { path = read_is c.read-path.result c.read-path.ensures; examples = examples }
+returns c = record { path = read_is c.read_path.result c.read_path.ensures; examples = examples }

@@ -11,10 +11,10 @@ behind s at = take (length s - (at + 1)) (drop (at + 1) s)
 stood : (x : ℕ) (s : List ℕ) (at : ℕ) → Stands x s at → drop at s ≡ x ∷ behind s at
 stood x s at h = h ∙ ap (λ v. x ∷ v) (sym (take_rest s (at + 1)))
 
-pub returns-in-default : goal.returns-in-default
-returns-in-default c =
+pub returns-in_default : goal.returns-in_default
+returns-in_default c =
     let s = c.args.s.now in
-    no_local s (behind s 0) (stood 60 s 0 (c.if-not-stands.ensures.yes refl)) c.in-default.ensures
+    no_local s (behind s 0) (stood 60 s 0 (c.if-not-stands.ensures.yes refl)) c.in_default.ensures
 
 pub returns-then-not-stands-2 : goal.returns-then-not-stands-2
 returns-then-not-stands-2 c =
@@ -22,12 +22,12 @@ returns-then-not-stands-2 c =
     no_domain s (behind s 0) (stood 60 s 0 (c.if-not-stands.ensures.yes refl)) c.in-Some.local c.in-Some.ensures
     (λ ys m e _. c.if-not-stands-2.ensures.no refl ys e)
 
-pub returns-in-default-domain : goal.returns-in-default-domain
-returns-in-default-domain c =
+pub returns-in_default-domain : goal.returns-in_default-domain
+returns-in_default-domain c =
     let s = c.args.s.now in
     let n = c.in-Some.local in
     no_label s (behind s 0) (stood 60 s 0 (c.if-not-stands.ensures.yes refl)) n c.in-Some.ensures
-    (behind (behind s 0) n) (stood 64 (behind s 0) n (c.if-not-stands-2.ensures.yes refl)) c.in-default-domain.ensures
+    (behind (behind s 0) n) (stood 64 (behind s 0) n (c.if-not-stands-2.ensures.yes refl)) c.in_default-domain.ensures
 
 pub returns-then-not-stands-3 : goal.returns-then-not-stands-3
 returns-then-not-stands-3 c =

@@ -11,5 +11,5 @@ loop-i-preserved c =
     let long : length (take (i + 32 - i) (drop i s)) ≡ i + 32 - i = length-take-le (i + 32 - i) (drop i s) (omega arith) in (
       omega arith,
       omega arith,
-      clear_join s c.args.from i (i + 32) c.loop-i.invariant.2 (omega arith) (λ k lo hi e. c.has-cr.ensures c.if-not-has-cr.true k lo (omega arith) e),
+      clear_join s c.args.from i (i + 32) c.loop-i.invariant.2 (omega arith) (λ k lo hi e. c.has_cr.ensures c.if-not-has_cr.true k lo (omega arith) e),
     )

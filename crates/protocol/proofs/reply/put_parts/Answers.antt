@@ -28,10 +28,10 @@ returns c =
     let n = length-append b c.args.between.now in
     let o = length-append d c.args.second.now in
     let p = length-append e c.args.tail.now in
-    let one : Put was c.copy-to-a.new.output a at c.copy-to-a.result = record { is = c.copy-to-a.ensures.after; place = c.copy-to-a.ensures.end } in
-    let two = put_more was _ _ a c.args.first.now at _ _ (omega arith) one c.copy-to-b.ensures.after c.copy-to-b.ensures.end in
-    let three = put_more was _ _ b c.args.between.now at _ _ (omega arith) two c.copy-to-c.ensures.after c.copy-to-c.ensures.end in
-    let four = put_more was _ _ d c.args.second.now at _ _ (omega arith) three c.copy-to-d.ensures.after c.copy-to-d.ensures.end in
-    let five = put_more was _ _ e c.args.tail.now at _ _ (omega arith) four c.copy-to-e.ensures.after c.copy-to-e.ensures.end in
+    let one : Put was c.copy_to-a.new.output a at c.copy_to-a.result = record { is = c.copy_to-a.ensures.after; place = c.copy_to-a.ensures.end } in
+    let two = put_more was _ _ a c.args.first.now at _ _ (omega arith) one c.copy_to-b.ensures.after c.copy_to-b.ensures.end in
+    let three = put_more was _ _ b c.args.between.now at _ _ (omega arith) two c.copy_to-c.ensures.after c.copy_to-c.ensures.end in
+    let four = put_more was _ _ d c.args.second.now at _ _ (omega arith) three c.copy_to-d.ensures.after c.copy_to-d.ensures.end in
+    let five = put_more was _ _ e c.args.tail.now at _ _ (omega arith) four c.copy_to-e.ensures.after c.copy_to-e.ensures.end in
     let r = put_done was _ (e ++ c.args.tail.now) at _ (omega arith) five in
     record { answer = r.0; after = r.1 }

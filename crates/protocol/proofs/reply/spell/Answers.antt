@@ -6,8 +6,8 @@ use Rattle.protocol.proofs.reply.spell.Goals as goal
 pub loop-rest-init : goal.loop-rest-init
 loop-rest-init c = let lt : c.args.n < 2 ^ 64 = search rules in (spelt_none _ _ lt c.requires, c.requires)
 
-pub overflow-sub-i : goal.overflow-sub-i
-overflow-sub-i c = spelt_some _ _ _ _ c.loop-rest.invariant.0
+pub overflow_sub-i : goal.overflow_sub-i
+overflow_sub-i c = spelt_some _ _ _ _ c.loop-rest.invariant.0
 
 pub loop-rest-preserved : goal.loop-rest-preserved
 loop-rest-preserved c = (
@@ -15,8 +15,8 @@ loop-rest-preserved c = (
   length-set _ _ _ ∙ c.loop-rest.invariant.1,
 )
 
-pub overflow-sub-i-2 : goal.overflow-sub-i-2
-overflow-sub-i-2 c = spelt_some _ _ _ _ c.loop-rest.invariant.0
+pub overflow_sub-i-2 : goal.overflow_sub-i-2
+overflow_sub-i-2 c = spelt_some _ _ _ _ c.loop-rest.invariant.0
 
 pub returns : goal.returns
 returns c = record {

@@ -3,13 +3,13 @@ use Rattle.std.proofs.lemmas.List.{length-drop}
 use Rattle.receiver.specs.Moments.{moment}
 use Rattle.receiver.proofs.Conversing.{conversing_none, conversing_step, conversing_write, first_none}
 use Rattle.receiver.proofs.converse.converse.Goals as goal
-use Rattle.receiver.proofs.converse.converse.Goals.{else-loop-output-test, then-loop-output-test+in-None+then-taken-input, then-taken-input-via-then-taken-input, then-taken-input-via-else-taken-input+then-is-ended}
+use Rattle.receiver.proofs.converse.converse.Goals.{else-loop-output-test, then-loop-output-test+in-None+then-taken-input, then-taken-input-via-then-taken-input, then-taken-input-via-else-taken-input+then-is_ended}
 
 pub loop-output-init : goal.loop-output-init
 loop-output-init g c = conversing_none g.S.Spool.held g.S.Spool.lot g.S.Spool.room _ _ _ _ _ c.requires.roomy c.requires.wide c.requires.idle
 
-pub overflow-sub-output : goal.overflow-sub-output
-overflow-sub-output g c = c.loop-output.invariant.some_written
+pub overflow_sub-output : goal.overflow_sub-output
+overflow_sub-output g c = c.loop-output.invariant.some_written
 
 pub loop-output-smaller-in-Some : goal.loop-output-smaller-in-Some
 loop-output-smaller-in-Some g c = omega (arith, c.write-written.ensures.more, c.write-written.ensures.within, c.loop-output.auto.output, c.write-written.auto.output)
@@ -56,7 +56,7 @@ returns g c =
           first_none _ w.in-None.ensures,
           elim w.then-taken-input.branch [
             | then-taken-input-via-then-taken-input w' ↦ inl (omega (arith, l.invariant.some_taken, w'.if-taken-input.true))
-            | then-taken-input-via-else-taken-input+then-is-ended w' ↦ inr (w'.is-ended.ensures.0 w'.if-is-ended.true)
+            | then-taken-input-via-else-taken-input+then-is_ended w' ↦ inr (w'.is_ended.ensures.0 w'.if-is_ended.true)
           ],
         )
       ];

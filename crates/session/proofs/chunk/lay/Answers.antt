@@ -11,5 +11,5 @@ returns-then-octets-area c =
     let at = c.args.at in
     let xs = c.args.octets.now in
     let fit : at + length xs ≤ length a = omega arith in
-    let over : put_mid at (at + length xs - at) a c.copy-from-slice.new.self ≡ overlaid a at xs = search (rules, overwrites) in
+    let over : put_mid at (at + length xs - at) a c.copy_from_slice.new.self ≡ overlaid a at xs = search (rules, overwrites) in
     over ∙ sym (cond-true _ _ _ (le-leb _ _ fit))

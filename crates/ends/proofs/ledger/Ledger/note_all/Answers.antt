@@ -9,8 +9,8 @@ use Rattle.ends.proofs.ledger.Ledger.note_all.Goals as goal
 pub loop-r-init : goal.loop-r-init
 loop-r-init c = counted_none c.args.self.now
 
-pub note-filed-requires : goal.note-filed-requires
-note-filed-requires c =
+pub note_filed-requires : goal.note_filed-requires
+note_filed-requires c =
     let rs = c.args.recipients.now in
     let i = c.loop-r.r-index in
     let m = get_or rs i 0 % 64 in
@@ -22,8 +22,8 @@ loop-r-preserved c =
     let rs = c.args.recipients.now in
     let i = c.loop-r.r-index in
     let l = c.args.self.now in
-    let k = c.note-filed.new.self in
-    let more = counted_more l c.loop-r.self k (map (entry []) (take i rs)) (entry [] (get_or rs i 0) ∷ []) c.loop-r.invariant c.note-filed.ensures in
+    let k = c.note_filed.new.self in
+    let more = counted_more l c.loop-r.self k (map (entry []) (take i rs)) (entry [] (get_or rs i 0) ∷ []) c.loop-r.invariant c.note_filed.ensures in
     subst (λ (x : List Entry). Counted l k x) (sym (entries_more [] rs i c.loop-r-test.true)) more
 
 pub returns : goal.returns

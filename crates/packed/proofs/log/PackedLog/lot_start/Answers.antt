@@ -11,7 +11,7 @@ pub returns-in-Ok : goal.returns-in-Ok
 returns-in-Ok c =
     let s = c.args.self.now in
     let n : slice_get (rows_of s) s.filed ≡ Some c.in-Ok.row =
-    ap (λ v. slice_get (take s.entries.count v) s.filed) (sym c.as-slice.ensures.value) ∙ present_some _ _ c.in-Ok.ensures in
+    ap (λ v. slice_get (take s.entries.count v) s.filed) (sym c.as_slice.ensures.value) ∙ present_some _ _ c.in-Ok.ensures in
     let t : take s.filed (rows_of s) ≡ take s.filed s.rows.items = take-take s.filed s.entries.count s.rows.items s.filed_fit in
     omega (arith, offset_nth 0 (rows_of s) s.filed c.in-Ok.row s.no_gaps n, ap total t)
 
@@ -19,8 +19,8 @@ pub returns-in-Err : goal.returns-in-Err
 returns-in-Err c =
     let s = c.args.self.now in
     let n : slice_get (rows_of s) s.filed ≡ None =
-    ap (λ v. slice_get (take s.entries.count v) s.filed) (sym c.as-slice.ensures.value) ∙ present_none _ _ c.in-Err.ensures in
+    ap (λ v. slice_get (take s.entries.count v) s.filed) (sym c.as_slice.ensures.value) ∙ present_none _ _ c.in-Err.ensures in
     let l : length (rows_of s) ≤ s.filed = nth_none (rows_of s) s.filed n in
     let f : s.entries.count ≡ s.filed = omega (arith, length-take-le s.entries.count s.rows.items s.rows_fit, s.filed_fit) in
-    count_is s.octets.items c.as-slice-in-Err.result.now s.packed.count c.len.result c.as-slice-in-Err.ensures.value s.octets_fit c.len.ensures
+    count_is s.octets.items c.as_slice-in-Err.result.now s.packed.count c.len.result c.as_slice-in-Err.ensures.value s.octets_fit c.len.ensures
     ∙ sym s.no_rest ∙ ap (λ v. total (take v s.rows.items)) f

@@ -5,8 +5,8 @@ use Rattle.packed.specs.Packing.{lowered}
 use Rattle.packed.specs.declared.row.LogRow.{LogRow}
 use Rattle.packed.proofs.log.edit.lower.Goals as goal
 
-pub overflow-sub-rows : goal.overflow-sub-rows
-overflow-sub-rows c =
+pub overflow_sub-rows : goal.overflow_sub-rows
+overflow_sub-rows c =
     let d : LogRow = record { offset = 0; length = 0; mailbox = 0 } in
     let i = c.loop-i.i in
     omega (arith, c.requires.high i d (omega arith) (omega arith), ap (λ v. v.offset) (c.loop-i.invariant.high i d (omega arith)))

@@ -9,8 +9,8 @@ loop-i-init c = (took_none _ _, omega arith)
 
 pub loop-i-preserved-then-end-i : goal.loop-i-preserved-then-end-i
 loop-i-preserved-then-end-i c =
-    let k = c.run-end-end.ensures in (
-      took_run c.args.input.now c.loop-i.i c.run-end-end.result _ c.loop-i.self _ _ c.loop-i.area _ c.if-end-i.true k.high k.clear c.loop-i.invariant.0 (k.place c.if-end-i.true) c.put-run.ensures.place c.put-run.ensures.adds,
+    let k = c.run_end-end.ensures in (
+      took_run c.args.input.now c.loop-i.i c.run_end-end.result _ c.loop-i.self _ _ c.loop-i.area _ c.if-end-i.true k.high k.clear c.loop-i.invariant.0 (k.place c.if-end-i.true) c.put_run.ensures.place c.put_run.ensures.adds,
       k.high,
     )
 

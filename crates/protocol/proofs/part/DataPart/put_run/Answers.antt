@@ -12,9 +12,9 @@ returns-then-run-room c =
       place = refl;
       adds = record {
         lays = λ payload was l.
-            let P : List ℕ → Type 0 = λ a. Laid (payload ++ run) was a c.copy-to-self.result d.over in
+            let P : List ℕ → Type 0 = λ a. Laid (payload ++ run) was a c.copy_to-self.result d.over in
             let Q : ℕ → Type 0 = λ n. Laid (payload ++ run) was (overlaid c.args.area.now d.kept run) n d.over in
-            subst P (sym c.copy-to-self.ensures.after) (subst Q (sym c.copy-to-self.ensures.end) (adds_all run payload was c.args.area.now d.kept d.over c.if-self-area.true (omega arith) l));
+            subst P (sym c.copy_to-self.ensures.after) (subst Q (sym c.copy_to-self.ensures.end) (adds_all run payload was c.args.area.now d.kept d.over c.if-self-area.true (omega arith) l));
       };
     }
 
@@ -30,9 +30,9 @@ returns-else-run-room c =
       place = refl;
       adds = record {
         lays = λ payload was l.
-            let P : List ℕ → Type 0 = λ a. Laid (payload ++ run) was a c.copy-to-self-else-run-room.result true in
+            let P : List ℕ → Type 0 = λ a. Laid (payload ++ run) was a c.copy_to-self-else-run-room.result true in
             let Q : ℕ → Type 0 = λ n. Laid (payload ++ run) was (overlaid area d.kept part) n true in
-            subst P (sym c.copy-to-self-else-run-room.ensures.after) (subst Q (sym c.copy-to-self-else-run-room.ensures.end) (adds_part run part payload was area d.kept room d.over c.if-self-area.true refl c.if-run-room.false (ap (λ n. take n run) k) l));
+            subst P (sym c.copy_to-self-else-run-room.ensures.after) (subst Q (sym c.copy_to-self-else-run-room.ensures.end) (adds_part run part payload was area d.kept room d.over c.if-self-area.true refl c.if-run-room.false (ap (λ n. take n run) k) l));
       };
     }
 

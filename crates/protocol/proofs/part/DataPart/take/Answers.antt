@@ -10,22 +10,22 @@ returns-then-octet-eq46 c = took_quiet Start Dot _ _ _ (start_dot _ c.if-octet-e
 
 pub returns-else-octet-eq46 : goal.returns-else-octet-eq46
 returns-else-octet-eq46 c =
-    took_on Start (inside c.args.octet) _ _ _ _ _ _ (start_on _ c.if-octet-eq46.false) c.in-Start.is c.go-on.ensures.place c.go-on.ensures.adds
+    took_on Start (inside c.args.octet) _ _ _ _ _ _ (start_on _ c.if-octet-eq46.false) c.in-Start.is c.go_on.ensures.place c.go_on.ensures.adds
 
 pub returns-in-Inside : goal.returns-in-Inside
 returns-in-Inside c =
-    took_on Inside (inside c.args.octet) _ _ _ _ _ _ (inside_on _) c.in-Inside.is c.go-on-in-Inside.ensures.place c.go-on-in-Inside.ensures.adds
+    took_on Inside (inside c.args.octet) _ _ _ _ _ _ (inside_on _) c.in-Inside.is c.go_on-in-Inside.ensures.place c.go_on-in-Inside.ensures.adds
 
 pub returns-then-octet-eq10 : goal.returns-then-octet-eq10
 returns-then-octet-eq10 c = took_on Cr Start _ _ _ _ _ _ (cr_lf _ c.if-octet-eq10.true) c.in-Cr.is refl (record { lays = c.put.ensures.adds.lays })
 
 pub returns-else-octet-eq10 : goal.returns-else-octet-eq10
 returns-else-octet-eq10 c =
-    took_on Cr (inside c.args.octet) _ _ _ _ _ _ (cr_on _ c.if-octet-eq10.false) c.in-Cr.is c.go-on-else-octet-eq10.ensures.place c.go-on-else-octet-eq10.ensures.adds
+    took_on Cr (inside c.args.octet) _ _ _ _ _ _ (cr_on _ c.if-octet-eq10.false) c.in-Cr.is c.go_on-else-octet-eq10.ensures.place c.go_on-else-octet-eq10.ensures.adds
 
 pub returns-then-octet-eq13 : goal.returns-then-octet-eq13
 returns-then-octet-eq13 c = took_quiet Dot DotCr _ _ _ (dot-cr _ c.if-octet-eq13.true) c.in-Dot.is
 
 pub returns-else-octet-eq13 : goal.returns-else-octet-eq13
 returns-else-octet-eq13 c =
-    took_on Dot (inside c.args.octet) _ _ _ _ _ _ (dot_on _ c.if-octet-eq13.false) c.in-Dot.is c.go-on-else-octet-eq13.ensures.place c.go-on-else-octet-eq13.ensures.adds
+    took_on Dot (inside c.args.octet) _ _ _ _ _ _ (dot_on _ c.if-octet-eq13.false) c.in-Dot.is c.go_on-else-octet-eq13.ensures.place c.go_on-else-octet-eq13.ensures.adds

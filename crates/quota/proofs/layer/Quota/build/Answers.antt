@@ -7,7 +7,7 @@ returns g c =
     let h = g.S.Spool.held c.args.below in
     let l = g.S.Spool.lot c.args.below in
     record {
-      answer = sym (lawful_build h l (omega arith) c.if-lot-is-open.ensures c.args.entries c.args.octets (omega arith) (omega arith) (omega arith) (omega arith));
+      answer = sym (lawful_build h l (omega arith) c.if-lot_is_open.ensures c.args.entries c.args.octets (omega arith) (omega arith) (omega arith) (omega arith));
       values = (refl, refl, refl);
-      within = λ w. (w, λ m. let n = counts_none h l (omega arith) c.if-lot-is-open.ensures m in (omega arith, omega arith));
+      within = λ w. (w, λ m. let n = counts_none h l (omega arith) c.if-lot_is_open.ensures m in (omega arith, omega arith));
     }

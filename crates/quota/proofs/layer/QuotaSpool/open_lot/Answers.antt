@@ -5,8 +5,8 @@ use Rattle.quota.proofs.layer.QuotaSpool.open_lot.Goals as goal
 pub returns : goal.returns
 returns g c =
     let q = c.args.self.now in
-    let b' = c.open-lot.new.self in
-    let s = c.open-lot.ensures in
+    let b' = c.open_lot.new.self in
+    let s = c.open_lot.ensures in
     let h = g.S.Spool.held q.below in
     let l = g.S.Spool.lot q.below in
     let h' = g.S.Spool.held b' in

@@ -16,8 +16,8 @@ returns g c =
     let e : Entry = record { mailbox = c.args.mailbox; payload = c.args.payload.now } in
     let r = g.S.Spool.room q.below e.mailbox (length e.payload) in
     let inside = c.if-mailbox-ge64.false in
-    let lot = c.if-not-lot-is-open.ensures in
-    let free = c.in-ok-room.ensures in
+    let lot = c.if-not-lot_is_open.ensures in
+    let free = c.in_ok-room.ensures in
     record {
       refused = λ k. ap (λ v. record { below = v; limits = q.limits }) (s.refused k);
       answer = staged-answer q.limits h h' l l' e r inside lot free (told c.stage.result) s.answer;

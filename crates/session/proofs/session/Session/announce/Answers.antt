@@ -9,9 +9,9 @@ pub returns-then-chunk-eq0 : goal.returns-then-chunk-eq0
 returns-then-chunk-eq0 c = record {
   after = λ g p text w b s h u j l.
       let x = c.args.self.now in
-      let P : List ℕ → Type 0 = λ o. After g p o c.end-chunk.new.self c.args.area.now c.args.sheet.now c.end-chunk.result in
+      let P : List ℕ → Type 0 = λ o. After g p o c.end_chunk.new.self c.args.area.now c.args.sheet.now c.end_chunk.result in
       subst P (append-nil (ended text))
-      (c.end-chunk.ensures.after g p text [] w b (came_none g p x x c.args.area.now c.args.sheet.now c.args.chunk c.joins-joins.result text b w s h u j l c.joins-joins.ensures) (sym c.if-chunk-eq0.true));
+      (c.end_chunk.ensures.after g p text [] w b (came_none g p x x c.args.area.now c.args.sheet.now c.args.chunk c.joins-joins.result text b w s h u j l c.joins-joins.ensures) (sym c.if-chunk-eq0.true));
 }
 
 pub returns : goal.returns

@@ -18,7 +18,7 @@ returns-then-got-chunk c =
     let whole : n - 0 ≡ n = omega arith in
     let lt : length a < 2 ^ 64 = omega arith in
     let is : c.if-joins.area ≡ cond c.args.part.joins (put a at run) a = elim c.if-joins.branch [
-      | then-joins w ↦ w.area_is ∙ w.lay.ensures ∙ ap (λ (k : ℕ). put a k (take (n - 0) c.args.input.now)) w.saturating-add.ensures ∙ ap (λ (k : ℕ). put a at (take k c.args.input.now)) whole ∙ sym (cond-true c.args.part.joins (put a at run) a w.if-joins.true)
+      | then-joins w ↦ w.area_is ∙ w.lay.ensures ∙ ap (λ (k : ℕ). put a k (take (n - 0) c.args.input.now)) w.saturating_add.ensures ∙ ap (λ (k : ℕ). put a at (take k c.args.input.now)) whole ∙ sym (cond-true c.args.part.joins (put a at run) a w.if-joins.true)
       | else-joins w ↦ w.area_is ∙ sym (cond-false c.args.part.joins (put a at run) a w.if-joins.false)
     ] in
     record {
@@ -38,11 +38,11 @@ returns c =
     let whole : n - 0 ≡ n = omega arith in
     let lt : length a < 2 ^ 64 = omega arith in
     let is : c.if-joins.area ≡ cond c.args.part.joins (put a at run) a = elim c.if-joins.branch [
-      | then-joins w ↦ w.area_is ∙ w.lay.ensures ∙ ap (λ (k : ℕ). put a k (take (n - 0) c.args.input.now)) w.saturating-add.ensures ∙ ap (λ (k : ℕ). put a at (take k c.args.input.now)) whole ∙ sym (cond-true c.args.part.joins (put a at run) a w.if-joins.true)
+      | then-joins w ↦ w.area_is ∙ w.lay.ensures ∙ ap (λ (k : ℕ). put a k (take (n - 0) c.args.input.now)) w.saturating_add.ensures ∙ ap (λ (k : ℕ). put a at (take k c.args.input.now)) whole ∙ sym (cond-true c.args.part.joins (put a at run) a w.if-joins.true)
       | else-joins w ↦ w.area_is ∙ sym (cond-false c.args.part.joins (put a at run) a w.if-joins.false)
     ] in
     record {
       within = omega (arith, c.min-count.ensures);
       some = omega (arith, c.min-count.ensures, c.args.part.more, c.requires.some);
-      hears = record { in_any = λ name find. chunk_last (setting_of x name a find) x a c.if-joins.area c.args.sheet.now c.args.part run at refl c.requires.mode lt (omega (arith, c.min-count.ensures, c.args.part.more)) refl is c.end-chunk-event.new.self c.end-chunk-event.result (omega arith) c.if-joins.auto.area c.end-chunk-event.ensures };
+      hears = record { in_any = λ name find. chunk_last (setting_of x name a find) x a c.if-joins.area c.args.sheet.now c.args.part run at refl c.requires.mode lt (omega (arith, c.min-count.ensures, c.args.part.more)) refl is c.end_chunk-event.new.self c.end_chunk-event.result (omega arith) c.if-joins.auto.area c.end_chunk-event.ensures };
     }

@@ -6,15 +6,15 @@ use Rattle.slots.specs.declared.row.SlotRow.{SlotRow}
 use Rattle.slots.proofs.Moves.{moved_in, last_out, slots_kept, rows_in, whole_kept, apart_kept}
 use Rattle.slots.proofs.table.SlotTable.claim.Goals as goal
 
-pub invariant-of-self : goal.invariant-of-self
-invariant-of-self c =
+pub invariant_of-self : goal.invariant_of-self
+invariant_of-self c =
     let t = c.args.self.now in
     let n = c.len-last.result in
     let r : SlotRow = record { slot = get_or t.numbers (n - 1) 0; length = c.args.size; mailbox = c.args.mailbox } in
-    let ys = c.as-mut-slice.result.now in
+    let ys = c.as_mut_slice.result.now in
     let rs = c.append.new.memory in
-    let k : length (with_items t.rows rs).items ≡ slot_count t = slots_kept t ys rs c.append.new.self c.as-mut-slice.ensures.value (omega arith) in
-    let u = rows_in t ys rs c.append.new.self c.as-mut-slice.ensures.value (omega arith) r c.requires c.append.ensures.after in
+    let k : length (with_items t.rows rs).items ≡ slot_count t = slots_kept t ys rs c.append.new.self c.as_mut_slice.ensures.value (omega arith) in
+    let u = rows_in t ys rs c.append.new.self c.as_mut_slice.ensures.value (omega arith) r c.requires c.append.ensures.after in
     let f = last_out t.numbers t.free c.truncate.new.self n 0 c.len-last.ensures (omega (arith, t.whole, c.requires, c.len-last.ensures)) c.truncate.ensures in
     let us' = records c.append.new.self (with_items t.rows rs).items in
     let fs' = records c.truncate.new.self t.numbers in
@@ -24,9 +24,9 @@ invariant-of-self c =
 pub returns : goal.returns
 returns c =
     let t = c.args.self.now in
-    let ys = c.as-mut-slice.result.now in
+    let ys = c.as_mut_slice.result.now in
     let rs = c.append.new.memory in
     record {
-      rows = rows_in t ys rs c.append.new.self c.as-mut-slice.ensures.value (omega arith) _ c.requires c.append.ensures.after;
-      slots = slots_kept t ys rs c.append.new.self c.as-mut-slice.ensures.value (omega arith);
+      rows = rows_in t ys rs c.append.new.self c.as_mut_slice.ensures.value (omega arith) _ c.requires c.append.ensures.after;
+      slots = slots_kept t ys rs c.append.new.self c.as_mut_slice.ensures.value (omega arith);
     }

@@ -16,8 +16,8 @@ loop-slot-preserved c =
       (λ slot. omega (arith, ap (spares slot) e, sum_by_push (λ x. cond (eqb x slot) 1 0) fs n, c.loop-slot.invariant.2 slot, once_more slot n)),
     )
 
-pub invariant-of-result : goal.invariant-of-result
-invariant-of-result c =
+pub invariant_of-result : goal.invariant_of-result
+invariant_of-result c =
     let rows = c.args.rows.items in
     let e : take c.new.result.count rows ≡ [] = ap (λ k. take k rows) c.new.ensures in
     let n : c.loop-slot.slot ≡ length rows = omega arith in (

@@ -5,15 +5,15 @@ use Rattle.slots.specs.Tables.{slot_count, used_rows}
 use Rattle.slots.proofs.Moves.{append_in, moved_out, row_at, slots_kept, rows_out, whole_kept, apart_kept}
 use Rattle.slots.proofs.table.SlotTable.release.Goals as goal
 
-pub invariant-of-self : goal.invariant-of-self
-invariant-of-self c =
+pub invariant_of-self : goal.invariant_of-self
+invariant_of-self c =
     let t = c.args.self.now in
     let at = c.args.at in
     let r = c.index.result.now in
-    let ys = c.as-mut-slice.result.now in
+    let ys = c.as_mut_slice.result.now in
     let rs = c.remove.new.memory in
-    let k : length (with_items t.rows rs).items ≡ slot_count t = slots_kept t ys rs c.remove.new.self c.as-mut-slice.ensures.value (omega arith) in
-    let u = rows_out t ys rs c.remove.new.self c.as-mut-slice.ensures.value (omega arith) at c.requires c.remove.ensures.after in
+    let k : length (with_items t.rows rs).items ≡ slot_count t = slots_kept t ys rs c.remove.new.self c.as_mut_slice.ensures.value (omega arith) in
+    let u = rows_out t ys rs c.remove.new.self c.as_mut_slice.ensures.value (omega arith) at c.requires c.remove.ensures.after in
     let us' = records c.remove.new.self (with_items t.rows rs).items in
     let fs' = records c.append.new.self c.append.new.memory in
     let f = append_in (records t.free t.numbers) fs' (length t.numbers) r.slot (omega (arith, t.few, t.wide, t.whole, c.requires)) c.append.ensures.after in
@@ -23,9 +23,9 @@ invariant-of-self c =
 pub returns : goal.returns
 returns c =
     let t = c.args.self.now in
-    let ys = c.as-mut-slice.result.now in
+    let ys = c.as_mut_slice.result.now in
     let rs = c.remove.new.memory in
     record {
-      rows = rows_out t ys rs c.remove.new.self c.as-mut-slice.ensures.value (omega arith) c.args.at c.requires c.remove.ensures.after;
-      slots = slots_kept t ys rs c.remove.new.self c.as-mut-slice.ensures.value (omega arith);
+      rows = rows_out t ys rs c.remove.new.self c.as_mut_slice.ensures.value (omega arith) c.args.at c.requires c.remove.ensures.after;
+      slots = slots_kept t ys rs c.remove.new.self c.as_mut_slice.ensures.value (omega arith);
     }

@@ -25,6 +25,6 @@ returns g c =
     record {
       answer = extend_fits xs ys c.args.self.now.count n c.min-count.ensures (omega arith);
       after = extend_after xs ys c.args.self.now.count n c.min-count.ensures _ (omega arith) (search (rules, overwrites));
-      count = λ _. sym (length-take-le _ _ (simp (length-append, length-take, length-drop) (omega (arith, c.copy-from-slice.ensures.len))));
+      count = λ _. sym (length-take-le _ _ (simp (length-append, length-take, length-drop) (omega (arith, c.copy_from_slice.ensures.len))));
       refused = λ h. absurd (true≢false h);
     }

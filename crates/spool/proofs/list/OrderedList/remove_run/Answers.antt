@@ -32,7 +32,7 @@ returns g c =
     let n = c.min-count.result in
     record {
       answer = remove-fits xs c.args.self.now.count n c.args.at c.args.by c.min-count.ensures (omega arith);
-      after = remove_after xs c.args.self.now.count n c.args.at c.args.by c.min-count.ensures _ (omega arith) c.close-gap.ensures;
+      after = remove_after xs c.args.self.now.count n c.args.at c.args.by c.min-count.ensures _ (omega arith) c.close_gap.ensures;
       count = λ _. sym (length-take-le _ _ (omega arith));
       refused = λ h. absurd (true≢false h);
     }

@@ -6,13 +6,13 @@ use Rattle.packed.specs.Logs.{entries-length, staged_is, staged-length}
 use Rattle.spool.proofs.Places.{none_some}
 use Rattle.packed.proofs.log.edit.PackedLogSpool.commit.Goals as goal
 
-pub overflow-add-self : goal.overflow-add-self
-overflow-add-self c = let s = c.args.self.now in omega (arith, c.staged-count-staged.ensures, staged-length s, s.filed_fit, s.rows_fit, s.rows_high)
+pub overflow_add-self : goal.overflow_add-self
+overflow_add-self c = let s = c.args.self.now in omega (arith, c.staged_count-staged.ensures, staged-length s, s.filed_fit, s.rows_fit, s.rows_high)
 
-pub invariant-of-self : goal.invariant-of-self
-invariant-of-self c =
+pub invariant_of-self : goal.invariant_of-self
+invariant_of-self c =
     let s = c.args.self.now in
-    let n : s.filed + c.staged-count-staged.result ≡ s.entries.count = omega (arith, c.staged-count-staged.ensures, staged-length s, s.filed_fit) in
+    let n : s.filed + c.staged_count-staged.result ≡ s.entries.count = omega (arith, c.staged_count-staged.ensures, staged-length s, s.filed_fit) in
     (s.octets_low, (s.octets_high, (s.rows_low, (s.rows_high, (s.octets_fit, (s.rows_fit, (omega (arith, n), ((λ _. sym n), (s.no_gaps, (s.no_rest, tt))))))))))
 
 pub returns : goal.returns
@@ -21,8 +21,8 @@ returns c =
     let o : lot_of s ≡ Some (drop s.filed (entries_of s)) = cond-true s.opened _ _ c.if-not-self.false in
     record {
       idle = λ h. none_some _ _ (sym h ∙ o);
-      answer = c.staged-count-staged.ensures;
-      held = take_all (s.filed + c.staged-count-staged.result) (entries_of s) (omega (arith, c.staged-count-staged.ensures, staged-length s, entries-length s, s.filed_fit))
+      answer = c.staged_count-staged.ensures;
+      held = take_all (s.filed + c.staged_count-staged.result) (entries_of s) (omega (arith, c.staged_count-staged.ensures, staged-length s, entries-length s, s.filed_fit))
           ∙ sym (take-append-drop s.filed (entries_of s))
           ∙ ap (λ v. held_of s ++ v) (sym (staged_is s));
       lot = refl;

@@ -26,11 +26,11 @@ returns-then-row-buffer c =
       buffer = copied_short (held_of s) at b e (held_nth s at c.if-at-self.false ∙ k.entry_at_lem) (omega (arith, k.long));
     }
 
-pub copy-out-requires : goal.copy-out-requires
-copy-out-requires c =
+pub copy_out-requires : goal.copy_out-requires
+copy_out-requires c =
     let s = c.args.self.now in
     let k = known s c.args.at c.index-row.result.now (omega (arith, s.filed_fit)) c.index-row.ensures in
-    (omega (arith, k.ends_in, s.octets_fit, ap length c.as-slice.ensures.value), c.if-row-buffer.false)
+    (omega (arith, k.ends_in, s.octets_fit, ap length c.as_slice.ensures.value), c.if-row-buffer.false)
 
 pub returns : goal.returns
 returns c =
@@ -44,8 +44,8 @@ returns c =
     let f : length e.payload ≤ length b = omega (arith, k.long, c.if-row-buffer.false) in
     record {
       answer = ap (λ v. Ok v) (sym k.long) ∙ copies_done (held_of s) at b e n f;
-      buffer = c.copy-out.ensures
-          ∙ ap (λ v. take r.length (drop r.offset v) ++ drop r.length b) c.as-slice.ensures.value
+      buffer = c.copy_out.ensures
+          ∙ ap (λ v. take r.length (drop r.offset v) ++ drop r.length b) c.as_slice.ensures.value
           ∙ ap (λ v. e.payload ++ drop v b) (sym k.long)
           ∙ copied_done (held_of s) at b e n f;
     }

@@ -28,31 +28,31 @@ row c = known c.args.self.now c.args.at c.index-row.result.now (there c) c.index
 octets-left : (c : After-remove) →
     let s = c.args.self.now in
     let r = c.index-row.result.now in
-    owned.Now s.octets s.packed c.remove-run.new.self c.remove-run.new.memory
+    owned.Now s.octets s.packed c.remove_run.new.self c.remove_run.new.memory
     (take r.offset (take s.packed.count s.octets.items) ++ drop (r.offset + r.length) (take s.packed.count s.octets.items))
 octets-left c =
     let s = c.args.self.now in
     let r = c.index-row.result.now in
-    owned.shortened s.octets s.packed c.remove-run.new.self c.as-mut-slice.result.now c.remove-run.new.memory c.remove-run.result c.as-mut-slice.ensures.value (omega arith) s.octets_fit
-    r.offset r.length (row c).ends_in c.remove-run.ensures.answer c.remove-run.ensures.after c.remove-run.ensures.count
+    owned.shortened s.octets s.packed c.remove_run.new.self c.as_mut_slice.result.now c.remove_run.new.memory c.remove_run.result c.as_mut_slice.ensures.value (omega arith) s.octets_fit
+    r.offset r.length (row c).ends_in c.remove_run.ensures.answer c.remove_run.ensures.after c.remove_run.ensures.count
 
 rows_left : (c : After-remove) →
     let s = c.args.self.now in
     owned.Now s.rows s.entries c.remove.new.self c.remove.new.memory (take c.args.at (rows_of s) ++ drop (c.args.at + 1) (rows_of s))
 rows_left c =
     let s = c.args.self.now in
-    owned.shortened s.rows s.entries c.remove.new.self c.as-mut-slice-2.result.now c.remove.new.memory c.remove.result c.as-mut-slice-2.ensures.value (omega arith) s.rows_fit
+    owned.shortened s.rows s.entries c.remove.new.self c.as_mut_slice-2.result.now c.remove.new.memory c.remove.result c.as_mut_slice-2.ensures.value (omega arith) s.rows_fit
     c.args.at 1 (omega (arith, all_held c)) c.remove.ensures.answer c.remove.ensures.after c.remove.ensures.count
 
 -- The memory once the rows behind are lowered.
 kept : (c : After-lower) → let s = c.args.self.now in
-    Keeps s (with_items s.octets c.remove-run.new.memory).items (with_items (with_items s.rows c.remove.new.memory) c.lower.new.rows).items
-    c.remove-run.new.self.count c.remove.new.self.count (remove (entries_of s) c.args.at)
+    Keeps s (with_items s.octets c.remove_run.new.memory).items (with_items (with_items s.rows c.remove.new.memory) c.lower.new.rows).items
+    c.remove_run.new.self.count c.remove.new.self.count (remove (entries_of s) c.args.at)
 kept c =
     let d = (goal.at.After-lower c).After-remove in
     removing c.args.self.now c.args.at c.index-row.result.now (row d) (there d) c.remove.new.memory c.remove.new.self (rows_left d)
-    c.remove-run.new.memory c.remove-run.new.self c.as-mut-slice-3.result.now c.lower.new.rows (octets-left d)
-    c.as-mut-slice-3.ensures.value (omega arith) c.lower.ensures.below (λ i e a b. c.lower.ensures.after i e a (omega (arith, all_held d)))
+    c.remove_run.new.memory c.remove_run.new.self c.as_mut_slice-3.result.now c.lower.new.rows (octets-left d)
+    c.as_mut_slice-3.ensures.value (omega arith) c.lower.ensures.below (λ i e a b. c.lower.ensures.after i e a (omega (arith, all_held d)))
 
 pub lower-requires : goal.lower-requires
 lower-requires c =
@@ -60,16 +60,16 @@ lower-requires c =
     let s = c.args.self.now in
     record {
       ordered = omega arith;
-      within = omega (arith, ap length c.as-mut-slice-3.ensures.value, (rows_left d).long, s.filed_fit, s.rows_fit);
+      within = omega (arith, ap length c.as_mut_slice-3.ensures.value, (rows_left d).long, s.filed_fit, s.rows_fit);
       high = λ i e a b.
-          omega (arith, high_enough s c.args.at c.index-row.result.now (row d) (there d) c.remove.new.memory c.remove.new.self (rows_left d) i e a (omega (arith, all_held d)), ap (λ v. (get_or v i e).offset) c.as-mut-slice-3.ensures.value);
+          omega (arith, high_enough s c.args.at c.index-row.result.now (row d) (there d) c.remove.new.memory c.remove.new.self (rows_left d) i e a (omega (arith, all_held d)), ap (λ v. (get_or v i e).offset) c.as_mut_slice-3.ensures.value);
     }
 
-pub invariant-of-self : goal.invariant-of-self
-invariant-of-self c =
+pub invariant_of-self : goal.invariant_of-self
+invariant_of-self c =
     let s = c.args.self.now in
-    let K = kept (goal.at.invariant-of-self c).After-lower in
-    let d = (goal.at.invariant-of-self c).After-remove in
+    let K = kept (goal.at.invariant_of-self c).After-lower in
+    let d = (goal.at.invariant_of-self c).After-remove in
     let out = rows_out s c.args.at c.index-row.result.now (row d) (there d) c.remove.new.memory c.remove.new.self (rows_left d) in (
       omega (arith, s.octets_low, K.octets_same),
       (
@@ -141,6 +141,6 @@ returns c =
       room = λ _ _ e q.
           let f : e ≡ entry_at s.octets.items r.offset r = same_some _ _ (sym q ∙ held_nth s at c.if-at-self.false ∙ (row d).entry_at_lem) in
           room_of (length e.payload) _ c.remove.new.self.count _
-          (omega (arith, ap (λ v. length v.payload) f ∙ (row d).long, octets_out s at r (row d) (there d) c.remove.new.memory c.remove.new.self (rows_left d) c.remove-run.new.memory c.remove-run.new.self (octets-left d), K.octets_same, s.octets_fit))
+          (omega (arith, ap (λ v. length v.payload) f ∙ (row d).long, octets_out s at r (row d) (there d) c.remove.new.memory c.remove.new.self (rows_left d) c.remove_run.new.memory c.remove_run.new.self (octets-left d), K.octets_same, s.octets_fit))
           (omega (arith, rows_out s at r (row d) (there d) c.remove.new.memory c.remove.new.self (rows_left d), K.rows_same, s.rows_fit));
     }

@@ -20,20 +20,20 @@ kept c =
     let m = c.args.mailbox in
     let p = c.args.payload.now in
     let row : LogRow = record { offset = c.len.result; length = length p; mailbox = m } in
-    let f = room_free s m (length p) (room_had m _ c.in-ok-room.ensures).1 in
+    let f = room_free s m (length p) (room_had m _ c.in_ok-room.ensures).1 in
     staging s m p c.extend.new.memory row c.append.new.memory c.extend.new.self c.append.new.self f
-    (count_is s.octets.items c.as-slice.result.now s.packed.count c.len.result c.as-slice.ensures.value s.octets_fit c.len.ensures) refl refl
-    (owned.extended s.octets s.packed c.extend.new.self c.as-mut-slice.result.now c.extend.new.memory c.extend.result c.as-mut-slice.ensures.value (omega arith) s.octets_fit
+    (count_is s.octets.items c.as_slice.result.now s.packed.count c.len.result c.as_slice.ensures.value s.octets_fit c.len.ensures) refl refl
+    (owned.extended s.octets s.packed c.extend.new.self c.as_mut_slice.result.now c.extend.new.memory c.extend.result c.as_mut_slice.ensures.value (omega arith) s.octets_fit
     p (omega (arith, f.octets, s.octets_fit)) c.extend.ensures.answer c.extend.ensures.after c.extend.ensures.count)
-    (owned.extended s.rows s.entries c.append.new.self c.as-mut-slice-2.result.now c.append.new.memory c.append.result c.as-mut-slice-2.ensures.value (omega arith) s.rows_fit
+    (owned.extended s.rows s.entries c.append.new.self c.as_mut_slice-2.result.now c.append.new.memory c.append.result c.as_mut_slice-2.ensures.value (omega arith) s.rows_fit
     (row ∷ []) (omega (arith, f.row)) c.append.ensures.answer c.append.ensures.after c.append.ensures.count)
 
-pub invariant-of-self : goal.invariant-of-self
-invariant-of-self c =
+pub invariant_of-self : goal.invariant_of-self
+invariant_of-self c =
     let s = c.args.self.now in
     let m = c.args.mailbox in
     let p = c.args.payload.now in
-    let k = kept (goal.at.invariant-of-self c).After-append in (
+    let k = kept (goal.at.invariant_of-self c).After-append in (
       omega (arith, s.octets_low, k.octets_same),
       (
         omega (arith, s.octets_high, k.octets_same),
@@ -73,7 +73,7 @@ returns c =
     let k = kept (goal.at.returns c).After-append in
     let o : lot_of s ≡ Some (drop s.filed (entries_of s)) = cond-true s.opened _ _ c.if-not-self.false in
     let e : Entry = record { mailbox = m; payload = p } in
-    let g = room_had m _ c.in-ok-room.ensures in
+    let g = room_had m _ c.in_ok-room.ensures in
     let w : s.filed ≤ length (entries_of s) = omega (arith, entries-length s, s.filed_fit) in
     record {
       refused = λ h. absurd (true≢false h);

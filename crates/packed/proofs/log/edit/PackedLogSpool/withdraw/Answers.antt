@@ -9,14 +9,14 @@ use Rattle.packed.specs.Logs.{rows_of, held_rows, held_length}
 use Rattle.spool.proofs.Places.{none_some}
 use Rattle.packed.proofs.log.edit.PackedLogSpool.withdraw.Goals as goal
 
-pub invariant-of-self : goal.invariant-of-self
-invariant-of-self c =
+pub invariant_of-self : goal.invariant_of-self
+invariant_of-self c =
     let s = c.args.self.now in
     let n : c.truncate-2.new.self.count ≡ s.filed = omega (arith, c.truncate-2.ensures, s.filed_fit) in
     let t : take s.filed (rows_of s) ≡ take c.truncate-2.new.self.count s.rows.items =
     take-take s.filed s.entries.count s.rows.items s.filed_fit ∙ ap (λ v. take v s.rows.items) (sym n) in
     let w : total (take s.filed (rows_of s)) ≤ s.packed.count = omega (arith, total-take s.filed (rows_of s), s.no_rest) in
-    let e : c.lot-start-start.result ≡ total (take s.filed (rows_of s)) = c.lot-start-start.ensures ∙ ap total (sym (take-take s.filed s.entries.count s.rows.items s.filed_fit)) in
+    let e : c.lot_start-start.result ≡ total (take s.filed (rows_of s)) = c.lot_start-start.ensures ∙ ap total (sym (take-take s.filed s.entries.count s.rows.items s.filed_fit)) in
     let P : List LogRow → Type 0 = λ v. offsets v ≡ starts 0 v in (
       s.octets_low,
       (
@@ -56,7 +56,7 @@ returns c =
     let n : c.truncate-2.new.self.count ≡ s.filed = omega (arith, c.truncate-2.ensures, s.filed_fit) in
     record {
       idle = λ h. none_some _ _ (sym h ∙ o);
-      answer = c.staged-count-staged.ensures;
+      answer = c.staged_count-staged.ensures;
       held = ap (λ v. take s.filed (cut s.octets.items (take v s.rows.items))) n
           ∙ take_all s.filed _ (omega (arith, ap length (held_rows s), held_length s))
           ∙ sym (held_rows s);

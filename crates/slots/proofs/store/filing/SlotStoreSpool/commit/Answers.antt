@@ -5,13 +5,13 @@ use Rattle.slots.specs.Tables.{used_rows}
 use Rattle.slots.specs.Holdings.{entries-length, lot_some, staged_is, staged-length}
 use Rattle.slots.proofs.store.filing.SlotStoreSpool.commit.Goals as goal
 
-pub overflow-add-self : goal.overflow-add-self
-overflow-add-self c = let s = c.args.self.now in omega (arith, s.table.whole, s.table.few, c.staged-count-staged.ensures, staged-length s, s.front)
+pub overflow_add-self : goal.overflow_add-self
+overflow_add-self c = let s = c.args.self.now in omega (arith, s.table.whole, s.table.few, c.staged_count-staged.ensures, staged-length s, s.front)
 
-pub invariant-of-self : goal.invariant-of-self
-invariant-of-self c =
+pub invariant_of-self : goal.invariant_of-self
+invariant_of-self c =
     let s = c.args.self.now in
-    let e : s.filed + c.staged-count-staged.result ≡ length (used_rows s.table) = omega (arith, c.staged-count-staged.ensures, staged-length s, s.front) in
+    let e : s.filed + c.staged_count-staged.result ≡ length (used_rows s.table) = omega (arith, c.staged_count-staged.ensures, staged-length s, s.front) in
     (s.even, (s.high, (s.some, (s.short, (omega (arith, e), ((λ _. e), tt))))))
 
 pub returns : goal.returns
@@ -20,8 +20,8 @@ returns c =
     let o = lot_some s c.if-not-self.false in
     record {
       idle = λ h. (let z : ◌≡◌ {A = ℕ} 0 1 = cc (h, o) in absurd (omega arith));
-      answer = c.staged-count-staged.ensures;
-      held = take_all (s.filed + c.staged-count-staged.result) (entries s) (omega (arith, entries-length s, c.staged-count-staged.ensures, staged-length s, s.front))
+      answer = c.staged_count-staged.ensures;
+      held = take_all (s.filed + c.staged_count-staged.result) (entries s) (omega (arith, entries-length s, c.staged_count-staged.ensures, staged-length s, s.front))
           ∙ sym (take-append-drop s.filed (entries s)) ∙ ap (λ v. held_of s ++ v) (sym (staged_is s));
       lot = refl;
       floor = refl;

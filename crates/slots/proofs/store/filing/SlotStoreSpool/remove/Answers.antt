@@ -30,8 +30,8 @@ returns-then-at-self c =
       room = λ _ _ e h. absurd (omega (arith, (nth_is (held_of s) at e h).0, held_length s, c.if-at-self.true));
     }
 
-pub invariant-of-self : goal.invariant-of-self
-invariant-of-self c =
+pub invariant_of-self : goal.invariant_of-self
+invariant_of-self c =
     let s = c.args.self.now in
     let us = used_rows s.table in
     let at = c.args.at in

@@ -11,13 +11,13 @@ use Rattle.slots.proofs.store.filing.SlotStoreSpool.stage.Goals as goal
 pub claim-slot-requires : goal.claim-slot-requires
 claim-slot-requires c =
     let m = c.args.mailbox in
-    (has_room c.args.self.now m (length c.args.payload.now) (room_told m _ _ (omega (arith, c.if-mailbox-gt63.false)) c.in-ok-room.ensures)).1
+    (has_room c.args.self.now m (length c.args.payload.now) (room_told m _ _ (omega (arith, c.if-mailbox-gt63.false)) c.in_ok-room.ensures)).1
 
-pub overflow-mul-slot : goal.overflow-mul-slot
-overflow-mul-slot c =
+pub overflow_mul-slot : goal.overflow_mul-slot
+overflow_mul-slot c =
     let s = c.args.self.now in
     let m = c.args.mailbox in
-    let u = room_told m _ _ (omega (arith, c.if-mailbox-gt63.false)) c.in-ok-room.ensures in
+    let u = room_told m _ _ (omega (arith, c.if-mailbox-gt63.false)) c.in_ok-room.ensures in
     let k = payload_ends s c.claim-slot.new.self c.claim-slot.result m c.args.payload.now u c.claim-slot.ensures.rows c.claim-slot.ensures.slots in
     omega (arith, k, s.octets.ok.0, s.octets.small)
 
@@ -25,12 +25,12 @@ pub fill-requires : goal.fill-requires
 fill-requires c =
     let s = c.args.self.now in
     let m = c.args.mailbox in
-    let u = room_told m _ _ (omega (arith, c.if-mailbox-gt63.false)) c.in-ok-room.ensures in
+    let u = room_told m _ _ (omega (arith, c.if-mailbox-gt63.false)) c.in_ok-room.ensures in
     let k = payload_ends s c.claim-slot.new.self c.claim-slot.result m c.args.payload.now u c.claim-slot.ensures.rows c.claim-slot.ensures.slots in
-    omega (arith, k, s.octets.ok.0, c.as-mut-slice.ensures.len)
+    omega (arith, k, s.octets.ok.0, c.as_mut_slice.ensures.len)
 
-pub invariant-of-self : goal.invariant-of-self
-invariant-of-self c =
+pub invariant_of-self : goal.invariant_of-self
+invariant_of-self c =
     let s = c.args.self.now in
     let m = c.args.mailbox in
     let p = c.args.payload.now in
@@ -38,8 +38,8 @@ invariant-of-self c =
     let slot = c.claim-slot.result in
     let rows = c.claim-slot.ensures.rows in
     let slots = c.claim-slot.ensures.slots in
-    let u = room_told m _ _ (omega (arith, c.if-mailbox-gt63.false)) c.in-ok-room.ensures in
-    let k = octets_kept s t' slot m p u rows slots c.as-mut-slice.result.now c.fill.new.octets c.as-mut-slice.ensures.value (omega arith) c.fill.ensures in
+    let u = room_told m _ _ (omega (arith, c.if-mailbox-gt63.false)) c.in_ok-room.ensures in
+    let k = octets_kept s t' slot m p u rows slots c.as_mut_slice.result.now c.fill.new.octets c.as_mut_slice.ensures.value (omega arith) c.fill.ensures in
     let n = rows_longer s t' slot m p u rows slots in (
       ap (λ v. v * s.size) slots ∙ s.even ∙ sym k,
       (
@@ -67,10 +67,10 @@ returns c =
     let p = c.args.payload.now in
     let e : Entry = record { mailbox = m; payload = p } in
     let l : m < 64 = omega (arith, c.if-mailbox-gt63.false) in
-    let u : room_for s m (length p) ≡ None = room_told m _ _ l c.in-ok-room.ensures in
+    let u : room_for s m (length p) ≡ None = room_told m _ _ l c.in_ok-room.ensures in
     let o = lot_some s c.if-not-self.false in
     let a = entries_more s c.claim-slot.new.self c.claim-slot.result m p u c.claim-slot.ensures.rows c.claim-slot.ensures.slots
-    c.as-mut-slice.result.now c.fill.new.octets c.as-mut-slice.ensures.value (omega arith) c.fill.ensures in
+    c.as_mut_slice.result.now c.fill.new.octets c.as_mut_slice.ensures.value (omega arith) c.fill.ensures in
     let f : s.filed ≤ length (entries s) = omega (arith, entries-length s, s.front) in
     record {
       refused = λ h. absurd (true≢false h);

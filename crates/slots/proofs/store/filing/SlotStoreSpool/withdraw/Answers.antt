@@ -8,8 +8,8 @@ use Rattle.slots.specs.declared.row.SlotRow.{SlotRow}
 use Rattle.slots.specs.Holdings.{lot_some}
 use Rattle.slots.proofs.store.filing.SlotStoreSpool.withdraw.Goals as goal
 
-pub invariant-of-self : goal.invariant-of-self
-invariant-of-self c =
+pub invariant_of-self : goal.invariant_of-self
+invariant_of-self c =
     let s = c.args.self.now in
     let us = used_rows s.table in
     let e : s.filed ≡ length (used_rows c.keep.new.self) = sym (ap length c.keep.ensures.rows ∙ length-take-le s.filed us s.front) in
@@ -23,7 +23,7 @@ returns c =
     let f = view s.octets.items s.size in
     record {
       idle = λ h. (let z : ◌≡◌ {A = ℕ} 0 1 = cc (h, o) in absurd (omega arith));
-      answer = c.staged-count-staged.ensures;
+      answer = c.staged_count-staged.ensures;
       held = ap (λ v. take s.filed (map f v)) c.keep.ensures.rows ∙ ap (take s.filed) (sym (take-map f s.filed (used_rows s.table)))
           ∙ take-take s.filed s.filed (entries s) (omega arith);
       lot = refl;
