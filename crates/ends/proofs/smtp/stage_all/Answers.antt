@@ -22,7 +22,7 @@ loop-r-preserved g c =
 
 pub returns-in_err-stage_one : goal.returns-in_err-stage_one
 returns-in_err-stage_one g c =
-    let p = err_from_is_err_and c.from-residual.result c.from-residual.ensures.1 in
+    let p = err_from_is_err_and c.from_residual.result c.from_residual.ensures.1 in
     let st = c.in_err-stage_one.ensures in
     let w : Why g.S.Spool.held g.S.Spool.lot g.S.Spool.room (counts_of c.args.ledger.now) c.loop-r.spool (entry c.args.payload.now (get_or c.args.recipients.now c.loop-r.r-index 0)) (Room c.in_err-stage_one.field-0.0) = (ltb-false _ _ (sym c.if-is_full.ensures), st.tried.0) in
     let f = first-fault g.S.Spool.held g.S.Spool.lot g.S.Spool.room (counts_of c.args.ledger.now) c.args.spool.now c.loop-r.spool c.args.payload.now c.args.recipients.now c.loop-r.r-index (Room c.in_err-stage_one.field-0.0) c.loop-r-test.true c.loop-r.invariant.1 w in

@@ -13,10 +13,7 @@ invariant_of-result c =
     subst (λ (v : List DirectoryRow). GoodRows kind text v) c.as_slice-2.ensures.value
     (subst (λ (v : List ℕ). GoodRows kind v c.as_slice-2.result.now) c.as_slice.ensures.value (c.if-not-all_good.ensures.0 refl)) in
     let mailboxes : GoodMailboxes rows =
-    subst (λ (v : List DirectoryRow). GoodMailboxes v) c.as_slice-3.ensures.value (c.if-not-all_mailboxes.ensures.0 refl) in (
-      λ k d l. (All-get_or (GoodRow kind text) rows k d l good).within,
-      (
-        λ k d l. All-get_or (λ (row : DirectoryRow). row.mailbox < 64) rows k d l mailboxes,
-        tt,
-      ),
-    )
+    subst (λ (v : List DirectoryRow). GoodMailboxes v) c.as_slice-3.ensures.value (c.if-not-all_mailboxes.ensures.0 refl) in record {
+      within = λ k d l. (All-get_or (GoodRow kind text) rows k d l good).within;
+      below = λ k d l. All-get_or (λ (row : DirectoryRow). row.mailbox < 64) rows k d l mailboxes;
+    }

@@ -16,7 +16,7 @@ returns-in_err-row c =
     let s = c.args.self.now in
     let at = c.args.at in
     let n = present_none (slice_get (used_rows s.table) at) (notice c.in_err-row.field-0.0) c.in_err-row.ensures in
-    let p = err_from_is_err_and c.from-residual.result c.from-residual.ensures.1 in
+    let p = err_from_is_err_and c.from_residual.result c.from_residual.ensures.1 in
     ap told p.1 ∙ ap (λ v. Err (notice v)) p.2 ∙ ap (λ v. Err v) n.1
     ∙ sym (ap (λ v. present (option_map summary v)) (entry_at_lem s at ∙ ap (option_map (view s.octets.items s.size)) n.0))
 

@@ -19,7 +19,12 @@ invariant_of-self c =
     let us' = records c.append.new.self (with_items t.rows rs).items in
     let fs' = records c.truncate.new.self t.numbers in
     let m = moved_in (used_rows t) us' (records t.free t.numbers) fs' r u f in
-    (omega (arith, k, t.few), (t.wide, (whole_kept t us' fs' (length (with_items t.rows rs).items) m k, (apart_kept t us' fs' (length (with_items t.rows rs).items) m k, tt))))
+    record {
+      few = omega (arith, k, t.few);
+      wide = t.wide;
+      whole = whole_kept t us' fs' (length (with_items t.rows rs).items) m k;
+      apart = apart_kept t us' fs' (length (with_items t.rows rs).items) m k;
+    }
 
 pub returns : goal.returns
 returns c =

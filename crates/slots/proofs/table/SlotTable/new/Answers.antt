@@ -20,16 +20,9 @@ pub invariant_of-result : goal.invariant_of-result
 invariant_of-result c =
     let rows = c.args.rows.items in
     let e : take c.new.result.count rows ≡ [] = ap (λ k. take k rows) c.new.ensures in
-    let n : c.loop-slot.slot ≡ length rows = omega arith in (
-      c.requires,
-      (
-        c.loop-slot.invariant.0,
-        (
-          omega (arith, ap length e),
-          (
-            (λ slot. omega (arith, ap (takes slot) e, c.loop-slot.invariant.2 slot, ap (once slot) n)),
-            tt,
-          ),
-        ),
-      ),
-    )
+    let n : c.loop-slot.slot ≡ length rows = omega arith in record {
+      few = c.requires;
+      wide = c.loop-slot.invariant.0;
+      whole = omega (arith, ap length e);
+      apart = (λ slot. omega (arith, ap (takes slot) e, c.loop-slot.invariant.2 slot, ap (once slot) n));
+    }

@@ -18,7 +18,12 @@ invariant_of-self c =
     let fs' = records c.append.new.self c.append.new.memory in
     let f = append_in (records t.free t.numbers) fs' (length t.numbers) r.slot (omega (arith, t.few, t.wide, t.whole, c.requires)) c.append.ensures.after in
     let m = moved_out (used_rows t) us' (records t.free t.numbers) fs' at r c.requires (row_at t at r c.requires c.index.ensures) u f in
-    (omega (arith, k, t.few), (omega (arith, t.wide), (whole_kept t us' fs' (length (with_items t.rows rs).items) m k, (apart_kept t us' fs' (length (with_items t.rows rs).items) m k, tt))))
+    record {
+      few = omega (arith, k, t.few);
+      wide = omega (arith, t.wide);
+      whole = whole_kept t us' fs' (length (with_items t.rows rs).items) m k;
+      apart = apart_kept t us' fs' (length (with_items t.rows rs).items) m k;
+    }
 
 pub returns : goal.returns
 returns c =

@@ -13,7 +13,18 @@ pub invariant_of-self : goal.invariant_of-self
 invariant_of-self c =
     let s = c.args.self.now in
     let n : s.filed + c.staged_count-staged.result ≡ s.entries.count = omega (arith, c.staged_count-staged.ensures, staged-length s, s.filed_fit) in
-    (s.octets_low, (s.octets_high, (s.rows_low, (s.rows_high, (s.octets_fit, (s.rows_fit, (omega (arith, n), ((λ _. sym n), (s.no_gaps, (s.no_rest, tt))))))))))
+    record {
+      octets_low = s.octets_low;
+      octets_high = s.octets_high;
+      rows_low = s.rows_low;
+      rows_high = s.rows_high;
+      octets_fit = s.octets_fit;
+      rows_fit = s.rows_fit;
+      filed_fit = omega (arith, n);
+      closed = (λ _. sym n);
+      no_gaps = s.no_gaps;
+      no_rest = s.no_rest;
+    }
 
 pub returns : goal.returns
 returns c =

@@ -70,37 +70,18 @@ invariant_of-self c =
     let s = c.args.self.now in
     let K = kept (goal.at.invariant_of-self c).After-lower in
     let d = (goal.at.invariant_of-self c).After-remove in
-    let out = rows_out s c.args.at c.index-row.result.now (row d) (there d) c.remove.new.memory c.remove.new.self (rows_left d) in (
-      omega (arith, s.octets_low, K.octets_same),
-      (
-        omega (arith, s.octets_high, K.octets_same),
-        (
-          omega (arith, s.rows_low, K.rows_same),
-          (
-            omega (arith, s.rows_high, K.rows_same),
-            (
-              K.octets_fit,
-              (
-                K.rows_fit,
-                (
-                  omega (arith, all_held d, out),
-                  (
-                    (λ _. omega (arith, all_held d, out)),
-                    (
-                      K.no_gaps,
-                      (
-                        K.no_rest,
-                        tt,
-                      ),
-                    ),
-                  ),
-                ),
-              ),
-            ),
-          ),
-        ),
-      ),
-    )
+    let out = rows_out s c.args.at c.index-row.result.now (row d) (there d) c.remove.new.memory c.remove.new.self (rows_left d) in record {
+      octets_low = omega (arith, s.octets_low, K.octets_same);
+      octets_high = omega (arith, s.octets_high, K.octets_same);
+      rows_low = omega (arith, s.rows_low, K.rows_same);
+      rows_high = omega (arith, s.rows_high, K.rows_same);
+      octets_fit = K.octets_fit;
+      rows_fit = K.rows_fit;
+      filed_fit = omega (arith, all_held d, out);
+      closed = (λ _. omega (arith, all_held d, out));
+      no_gaps = K.no_gaps;
+      no_rest = K.no_rest;
+    }
 
 pub returns-then-at-self : goal.returns-then-at-self
 returns-then-at-self c =

@@ -33,37 +33,18 @@ invariant_of-self c =
     let s = c.args.self.now in
     let m = c.args.mailbox in
     let p = c.args.payload.now in
-    let k = kept (goal.at.invariant_of-self c).After-append in (
-      omega (arith, s.octets_low, k.octets_same),
-      (
-        omega (arith, s.octets_high, k.octets_same),
-        (
-          omega (arith, s.rows_low, k.rows_same),
-          (
-            omega (arith, s.rows_high, k.rows_same),
-            (
-              k.octets_fit,
-              (
-                k.rows_fit,
-                (
-                  omega (arith, s.filed_fit, k.more, length-append (entries_of s) (record { mailbox = m; payload = p } ∷ []), entries-length s),
-                  (
-                    (λ h. let z : true ≡ false = sym c.if-not-self.false ∙ h in absurd (true≢false z)),
-                    (
-                      k.no_gaps,
-                      (
-                        k.no_rest,
-                        tt,
-                      ),
-                    ),
-                  ),
-                ),
-              ),
-            ),
-          ),
-        ),
-      ),
-    )
+    let k = kept (goal.at.invariant_of-self c).After-append in record {
+      octets_low = omega (arith, s.octets_low, k.octets_same);
+      octets_high = omega (arith, s.octets_high, k.octets_same);
+      rows_low = omega (arith, s.rows_low, k.rows_same);
+      rows_high = omega (arith, s.rows_high, k.rows_same);
+      octets_fit = k.octets_fit;
+      rows_fit = k.rows_fit;
+      filed_fit = omega (arith, s.filed_fit, k.more, length-append (entries_of s) (record { mailbox = m; payload = p } ∷ []), entries-length s);
+      closed = (λ h. let z : true ≡ false = sym c.if-not-self.false ∙ h in absurd (true≢false z));
+      no_gaps = k.no_gaps;
+      no_rest = k.no_rest;
+    }
 
 pub returns : goal.returns
 returns c =

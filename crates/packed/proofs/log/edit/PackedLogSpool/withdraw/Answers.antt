@@ -17,37 +17,18 @@ invariant_of-self c =
     take-take s.filed s.entries.count s.rows.items s.filed_fit ∙ ap (λ v. take v s.rows.items) (sym n) in
     let w : total (take s.filed (rows_of s)) ≤ s.packed.count = omega (arith, total-take s.filed (rows_of s), s.no_rest) in
     let e : c.lot_start-start.result ≡ total (take s.filed (rows_of s)) = c.lot_start-start.ensures ∙ ap total (sym (take-take s.filed s.entries.count s.rows.items s.filed_fit)) in
-    let P : List LogRow → Type 0 = λ v. offsets v ≡ starts 0 v in (
-      s.octets_low,
-      (
-        s.octets_high,
-        (
-          s.rows_low,
-          (
-            s.rows_high,
-            (
-              omega (arith, c.truncate.ensures, s.octets_fit),
-              (
-                omega (arith, n, s.filed_fit, s.rows_fit),
-                (
-                  omega (arith, n),
-                  (
-                    (λ _. n),
-                    (
-                      subst P t (gapless-take s.filed (rows_of s) s.no_gaps),
-                      (
-                        ap total (sym t) ∙ omega (arith, c.truncate.ensures, w, e),
-                        tt,
-                      ),
-                    ),
-                  ),
-                ),
-              ),
-            ),
-          ),
-        ),
-      ),
-    )
+    let P : List LogRow → Type 0 = λ v. offsets v ≡ starts 0 v in record {
+      octets_low = s.octets_low;
+      octets_high = s.octets_high;
+      rows_low = s.rows_low;
+      rows_high = s.rows_high;
+      octets_fit = omega (arith, c.truncate.ensures, s.octets_fit);
+      rows_fit = omega (arith, n, s.filed_fit, s.rows_fit);
+      filed_fit = omega (arith, n);
+      closed = (λ _. n);
+      no_gaps = subst P t (gapless-take s.filed (rows_of s) s.no_gaps);
+      no_rest = ap total (sym t) ∙ omega (arith, c.truncate.ensures, w, e);
+    }
 
 pub returns : goal.returns
 returns c =

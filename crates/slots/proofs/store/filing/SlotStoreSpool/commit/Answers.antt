@@ -12,7 +12,14 @@ pub invariant_of-self : goal.invariant_of-self
 invariant_of-self c =
     let s = c.args.self.now in
     let e : s.filed + c.staged_count-staged.result ≡ length (used_rows s.table) = omega (arith, c.staged_count-staged.ensures, staged-length s, s.front) in
-    (s.even, (s.high, (s.some, (s.short, (omega (arith, e), ((λ _. e), tt))))))
+    record {
+      even = s.even;
+      high = s.high;
+      some = s.some;
+      short = s.short;
+      front = omega (arith, e);
+      closed = (λ _. e);
+    }
 
 pub returns : goal.returns
 returns c =

@@ -24,7 +24,7 @@ returns-in_err-row c =
     let at = c.args.at in
     let n = present_none (slice_get (used_rows s.table) at) (notice c.in_err-row.field-0.0) c.in_err-row.ensures in
     let h : slice_get (held_of s) at ≡ None = held_at s at c.if-at-self.false ∙ entry_at_lem s at ∙ ap (option_map (view s.octets.items s.size)) n.0 in
-    let p = err_from_is_err_and c.from-residual.result c.from-residual.ensures.1 in
+    let p = err_from_is_err_and c.from_residual.result c.from_residual.ensures.1 in
     record {
       answer = ap told p.1 ∙ ap (λ v. Err (notice v)) p.2 ∙ ap (λ v. Err v) n.1 ∙ sym (ap (λ v. copies_of v (length c.args.buffer.now)) h);
       buffer = sym (ap (λ v. copied_of v c.args.buffer.now) h);

@@ -40,7 +40,14 @@ invariant_of-self c =
     let k : length (used_rows c.release.new.self) + 1 ≡ length us = ap (λ v. length v + 1) c.release.ensures.rows ∙ length-remove us at l in
     let e : s.filed - 1 ≡ length (used_rows c.release.new.self) = omega (arith, k, s.closed c.if-self.false) in
     let o = sum_by_removed_le (λ (r : SlotRow). cond (ltb s.size r.length) 1 0) us at in
-    (ap (λ v. v * s.size) n ∙ s.even, (s.high, (omega (arith, n, s.some), (omega (arith, ap (overlong s.size) c.release.ensures.rows, o, s.short), (omega (arith, e), ((λ _. e), tt))))))
+    record {
+      even = ap (λ v. v * s.size) n ∙ s.even;
+      high = s.high;
+      some = omega (arith, n, s.some);
+      short = omega (arith, ap (overlong s.size) c.release.ensures.rows, o, s.short);
+      front = omega (arith, e);
+      closed = (λ _. e);
+    }
 
 pub returns : goal.returns
 returns c =

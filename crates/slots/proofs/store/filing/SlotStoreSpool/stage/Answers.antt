@@ -40,25 +40,14 @@ invariant_of-self c =
     let slots = c.claim-slot.ensures.slots in
     let u = room_told m _ _ (omega (arith, c.if-mailbox-gt63.false)) c.in_ok-room.ensures in
     let k = octets_kept s t' slot m p u rows slots c.as_mut_slice.result.now c.fill.new.octets c.as_mut_slice.ensures.value (omega arith) c.fill.ensures in
-    let n = rows_longer s t' slot m p u rows slots in (
-      ap (λ v. v * s.size) slots ∙ s.even ∙ sym k,
-      (
-        s.high,
-        (
-          omega (arith, slots, s.some),
-          (
-            rows_short s t' slot m p u rows slots,
-            (
-              omega (arith, n, s.front),
-              (
-                (λ h. let z : true ≡ false = sym c.if-not-self.false ∙ h in absurd (true≢false z)),
-                tt,
-              ),
-            ),
-          ),
-        ),
-      ),
-    )
+    let n = rows_longer s t' slot m p u rows slots in record {
+      even = ap (λ v. v * s.size) slots ∙ s.even ∙ sym k;
+      high = s.high;
+      some = omega (arith, slots, s.some);
+      short = rows_short s t' slot m p u rows slots;
+      front = omega (arith, n, s.front);
+      closed = (λ h. let z : true ≡ false = sym c.if-not-self.false ∙ h in absurd (true≢false z));
+    }
 
 pub returns : goal.returns
 returns c =

@@ -14,7 +14,14 @@ invariant_of-self c =
     let us = used_rows s.table in
     let e : s.filed ≡ length (used_rows c.keep.new.self) = sym (ap length c.keep.ensures.rows ∙ length-take-le s.filed us s.front) in
     let n = c.keep.ensures.slots in
-    (ap (λ k. k * s.size) n ∙ s.even, (s.high, (omega (arith, n, s.some), (omega (arith, ap (overlong s.size) c.keep.ensures.rows, sum_by-take-le (λ (r : SlotRow). cond (ltb s.size r.length) 1 0) us s.filed, s.short), (omega (arith, e), ((λ _. e), tt))))))
+    record {
+      even = ap (λ k. k * s.size) n ∙ s.even;
+      high = s.high;
+      some = omega (arith, n, s.some);
+      short = omega (arith, ap (overlong s.size) c.keep.ensures.rows, sum_by-take-le (λ (r : SlotRow). cond (ltb s.size r.length) 1 0) us s.filed, s.short);
+      front = omega (arith, e);
+      closed = (λ _. e);
+    }
 
 pub returns : goal.returns
 returns c =
