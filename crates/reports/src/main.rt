@@ -259,13 +259,13 @@ const USAGE: &str = "usage: reports NAME DIRECTORY SPOOL";
 fn run(rt: &HostRuntime) -> anyhow::Result<()> {
     let mut words = env::args(rt)?.skip(1);
     let Some(name) = words.next() else {
-        return Err(USAGE.into());
+        return Err(anyhow!("{USAGE}"));
     };
     let Some(directory) = words.next() else {
-        return Err(USAGE.into());
+        return Err(anyhow!("{USAGE}"));
     };
     let Some(spool) = words.next() else {
-        return Err(USAGE.into());
+        return Err(anyhow!("{USAGE}"));
     };
     if name.len() > 40 || !is_domain(name.as_bytes()) {
         return Err(anyhow!("NAME is a domain of at most 40 octets"));

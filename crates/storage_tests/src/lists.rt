@@ -28,5 +28,5 @@ fn full_and_absent(rt: HostRuntime) {
     assert!(rt; list.len(&memory) == 4 && memory == [1, 2, 3, 4]);
     let _ = list.remove(&mut memory, 1);
     same_numbers(&rt, &[number(list.get(&memory, 3))], &[13]);
-    assert!(rt; list.len(&memory) == 3 && &memory[0..3] == &[1, 3, 4]);
+    assert!(rt; list.len(&memory) == 3 && &memory[0..3] == [1, 3, 4].as_slice());
 }

@@ -18,8 +18,8 @@ returns-then-got-chunk c =
     let whole : n - 0 ≡ n = omega arith in
     let lt : length a < 2 ^ 64 = omega arith in
     let is : c.if-joins.area ≡ cond c.args.part.joins (put a at run) a = elim c.if-joins.branch [
-      | then-joins w ↦ w.area_is ∙ w.lay.ensures ∙ ap (λ (k : ℕ). put a k (take (n - 0) c.args.input.now)) w.saturating_add.ensures ∙ ap (λ (k : ℕ). put a at (take k c.args.input.now)) whole ∙ sym (cond-true c.args.part.joins (put a at run) a w.if-joins.true)
-      | else-joins w ↦ w.area_is ∙ sym (cond-false c.args.part.joins (put a at run) a w.if-joins.false)
+      | then-joins w ↦ w.area-is ∙ w.lay.ensures ∙ ap (λ (k : ℕ). put a k (take (n - 0) c.args.input.now)) w.saturating_add.ensures ∙ ap (λ (k : ℕ). put a at (take k c.args.input.now)) whole ∙ sym (cond-true c.args.part.joins (put a at run) a w.if-joins.true)
+      | else-joins w ↦ w.area-is ∙ sym (cond-false c.args.part.joins (put a at run) a w.if-joins.false)
     ] in
     record {
       within = omega (arith, c.min-count.ensures);
@@ -38,8 +38,8 @@ returns c =
     let whole : n - 0 ≡ n = omega arith in
     let lt : length a < 2 ^ 64 = omega arith in
     let is : c.if-joins.area ≡ cond c.args.part.joins (put a at run) a = elim c.if-joins.branch [
-      | then-joins w ↦ w.area_is ∙ w.lay.ensures ∙ ap (λ (k : ℕ). put a k (take (n - 0) c.args.input.now)) w.saturating_add.ensures ∙ ap (λ (k : ℕ). put a at (take k c.args.input.now)) whole ∙ sym (cond-true c.args.part.joins (put a at run) a w.if-joins.true)
-      | else-joins w ↦ w.area_is ∙ sym (cond-false c.args.part.joins (put a at run) a w.if-joins.false)
+      | then-joins w ↦ w.area-is ∙ w.lay.ensures ∙ ap (λ (k : ℕ). put a k (take (n - 0) c.args.input.now)) w.saturating_add.ensures ∙ ap (λ (k : ℕ). put a at (take k c.args.input.now)) whole ∙ sym (cond-true c.args.part.joins (put a at run) a w.if-joins.true)
+      | else-joins w ↦ w.area-is ∙ sym (cond-false c.args.part.joins (put a at run) a w.if-joins.false)
     ] in
     record {
       within = omega (arith, c.min-count.ensures);

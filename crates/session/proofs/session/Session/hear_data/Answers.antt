@@ -15,8 +15,8 @@ returns-then-fed c =
     let octets = take c.feed-fed.result.taken c.args.input.now in
     let T : Bool → Type 0 = λ b. DataTook c.args.part d' a a' octets b in
     let which : ((d'.over ≡ true) × (c.if-is_over.payload ≡ None)) ⊎ ((d'.over ≡ false) × (c.if-is_over.payload ≡ Some d'.kept)) = elim c.if-is_over.branch [
-      | then-is_over w ↦ inl (sym c.is_over.ensures ∙ w.if-is_over.true, w.payload_is)
-      | else-is_over w ↦ inr (sym c.is_over.ensures ∙ w.if-is_over.false, w.payload_is ∙ ap (λ (k : ℕ). Some k) w.kept.ensures)
+      | then-is_over w ↦ inl (sym c.is_over.ensures ∙ w.if-is_over.true, w.payload-is)
+      | else-is_over w ↦ inr (sym c.is_over.ensures ∙ w.if-is_over.false, w.payload-is ∙ ap (λ (k : ℕ). Some k) w.kept.ensures)
     ] in
     record {
       within = c.feed-fed.ensures.within;
