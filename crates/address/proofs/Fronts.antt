@@ -1,12 +1,12 @@
 -- The local part and the domain at the front of octets.
-use Rattle.std.proofs.Common.{◌≡◌, ℕ, zero, suc, ◌+◌, ◌-◌, ◌<◌, ◌≤◌, Bool, true, false, cond, ◌||◌, eqb, ◌⊎◌, List, [], ◌∷◌, ◌++◌, length, get_or, take, drop, Some, None, Option, sym, refl, ap, ◌∙◌, subst, inl, inr, arith, MatchOption}
+use Rattle.std.proofs.Common.{◌≡◌, ℕ, ◌<◌, ◌≤◌, Bool, true, false, cond, eqb, ◌⊎◌, List, [], ◌∷◌, ◌++◌, length, get_or, take, drop, Some, None, Option, sym, refl, ap, ◌∙◌, subst, inl, inr, arith, MatchOption}
 use Rattle.std.specs.List.{prefix_len, flat_map, AllByRecursion as All}
-use Rattle.std.proofs.lemmas.List.{length-append, append_assoc, append-nil, take-append-drop, take_at, take_all, length-take-le, drop_more, drop_all, get_or-drop, length-drop}
+use Rattle.std.proofs.lemmas.List.{length-append, append-nil, take-append-drop, take_at, take_all, length-take-le, drop_more}
 use Rattle.std.proofs.ByRecursion.{All-weaker}
 use Rattle.std.proofs.lemmas.List.Sums.{prefix_len-le-length}
 use Rattle.std.proofs.lemmas.Bool.{or_left, or_right}
-use Rattle.address.specs.Classes.{atext, let_dig, qtext, printable}
-use Rattle.address.specs.Words.{AllIn, run, pieces, onto_first, or_dot, label_octet, word_octet, IsAtom, IsLabel, IsWord, Dotted}
+use Rattle.address.specs.Classes.{atext, let_dig}
+use Rattle.address.specs.Words.{AllIn, run, pieces, onto_first, or_dot, label_octet, IsAtom, IsLabel, Dotted}
 use Rattle.address.specs.Parts.{spelling, Quoted, QuotedAt, LocalForm, LocalAt, DomainAt, IsLocal, IsDomain, Only}
 use Rattle.address.specs.declared.words.Word.TheVariants.{Atom, Label}
 use Rattle.address.proofs.Runs.{stops_at, leading_is}

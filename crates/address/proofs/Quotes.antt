@@ -1,9 +1,9 @@
 -- Reading on between quote marks.
-use Rattle.std.proofs.Common.{◌≡◌, ℕ, ◌+◌, ◌-◌, ◌<◌, ◌≤◌, true, false, ◌⊎◌, List, [], ◌∷◌, ◌++◌, length, get_or, take, drop, sym, refl, ap, ◌∙◌, subst, inl, inr, add-zero, add_assoc, zero-add, arith}
+use Rattle.std.proofs.Common.{◌≡◌, ℕ, ◌+◌, ◌-◌, ◌<◌, ◌≤◌, true, false, List, [], ◌∷◌, ◌++◌, length, get_or, take, drop, sym, refl, ap, ◌∙◌, subst, inl, inr, add-zero, add_assoc, zero-add, arith}
 use Rattle.std.specs.List.{flat_map, AllByRecursion as All}
 use Rattle.std.proofs.lemmas.List.{length-append, append_assoc, take-append-drop, take_at, length-take-le, drop_more, drop_all, get_or-drop, length-drop}
 use Rattle.address.specs.Classes.{qtext, printable}
-use Rattle.address.specs.Parts.{Quotable, bare, escaped, spelling, Allowed, Quoted, QuotedAt, Only}
+use Rattle.address.specs.Parts.{Quotable, bare, escaped, spelling, Allowed, QuotedAt, Only}
 use Rattle.address.specs.Quotes.{BareOrEscaped}
 use Rattle.address.proofs.Runs.{passes_apart}
 

@@ -1,11 +1,11 @@
 -- The longest run at the front of a list, and runs of words with dots between them.
-use Rattle.std.proofs.Common.{◌≡◌, ℕ, ◌+◌, ◌-◌, ◌<◌, ◌≤◌, Bool, true, false, cond, ◌||◌, eqb, ◌⊎◌, List, [], ◌∷◌, ◌++◌, length, get_or, take, drop, sym, refl, ap, ◌∙◌, subst, inl, inr, add-zero, zero-add, one-add, arith}
+use Rattle.std.proofs.Common.{◌≡◌, ℕ, ◌+◌, ◌-◌, ◌<◌, ◌≤◌, Bool, true, false, cond, eqb, List, [], ◌∷◌, ◌++◌, length, get_or, take, drop, sym, refl, ap, ◌∙◌, subst, inl, inr, add-zero, zero-add, one-add, arith}
 use lib.Seq.{take-append-add}
 use Rattle.std.specs.List.{between, prefix_len, AllByRecursion as All}
 use Rattle.std.proofs.ByRecursion.{All-weaker}
-use Rattle.std.proofs.lemmas.List.{length-drop, length-take-le, take-append-drop, append-nil, drop-drop, drop_all, drop_more, get_or-drop}
+use Rattle.std.proofs.lemmas.List.{length-drop, length-take-le, take-append-drop, append-nil, drop-drop, drop_all, drop_more}
 use Rattle.std.proofs.lemmas.List.Sums.{prefix_len-le-length}
-use Rattle.std.proofs.lemmas.Bool.{true≢false, false≢true, cond-true, cond-false, ne_eqb, or_left, or_right, or_from, cases_eq, cases_lt, cases_Bool}
+use Rattle.std.proofs.lemmas.Bool.{true≢false, cond-true, cond-false, ne_eqb, or_left, or_right, or_from, cases_eq, cases_lt, cases_Bool}
 use Rattle.address.specs.Words.{AllIn, run, pieces, onto_first, or_dot}
 
 -- An octet that passes differs from one that does not.

@@ -1,5 +1,5 @@
 -- The classes of an octet.
-use Rattle.std.specs.Prelude.{ℕ, ◌+◌, Bool, true, false, cond, ◌&&◌, ◌||◌, List, [], ◌∷◌, ◌==◌, nat_le}
+use Rattle.std.specs.Prelude.{ℕ, ◌+◌, Bool, false, cond, ◌&&◌, ◌||◌, List, [], ◌∷◌, ◌==◌, nat_le}
 use Rattle.address.specs.declared.classes.Class.{Class}
 use Rattle.address.specs.declared.classes.Class.TheVariants.{Atext, Qtext, LetDig, Printable}
 

@@ -1,6 +1,6 @@
 -- The relations depend on the filed counts of the mailboxes below 64 alone: they carry over from one reckoning of the counts
 -- to another that agrees with it there.
-use Rattle.std.proofs.Common.{◌≡◌, ℕ, ◌%◌, ◌<◌, ◌≤◌, List, [], ◌∷◌, ◌++◌, map, Option, sym, refl, subst, arith}
+use Rattle.std.proofs.Common.{◌≡◌, ℕ, ◌<◌, ◌≤◌, List, [], ◌∷◌, ◌++◌, map, Option, subst, arith}
 use Rattle.std.specs.List.{AllByRecursion as All}
 use Rattle.refusals.specs.declared.refusal.RoomFault.{RoomFault}
 use Rattle.spool.specs.Entries.{Entry}

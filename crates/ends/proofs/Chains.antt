@@ -1,10 +1,10 @@
 -- How the relations of the ends grow by one entry, and what they come to.
 use Rattle.std.proofs.Common.{◌≡◌, ℕ, zero, suc, ◌+◌, ◌%◌, ◌<◌, ◌≤◌, Bool, true, false, cond, eqb, List, [], ◌∷◌, ◌++◌, map, length, get_or, take, drop, Some, None, Option, sym, refl, ap, ◌∙◌, subst, append_assoc, arith, length-append}
-use Rattle.std.proofs.lemmas.List.{append-nil, map-append, take-append-drop, drop_more, length_push, length-map, length-take}
+use Rattle.std.proofs.lemmas.List.{append-nil, map-append, take-append-drop, drop_more, length_push}
 use Rattle.refusals.specs.declared.refusal.RoomFault.{RoomFault}
 use Rattle.spool.specs.Entries.{Entry}
 use Rattle.spool.specs.Rules.{staged}
-use Rattle.filing.specs.Lots.{Opened, Staged, Committed, Withdrawn}
+use Rattle.filing.specs.Lots.{Staged}
 use Rattle.protocol.specs.Replies.{code_of}
 use Rattle.protocol.specs.declared.reply.Reply.{Reply}
 use Rattle.ends.specs.declared.faults.EndFault.{EndFault}

@@ -1,5 +1,5 @@
 -- How a refusal for want of room is a fault, and a fault an answer.
-use Rattle.std.proofs.Common.{◌≡◌, ℕ, ◌<◌, ◌≤◌, true, false, leb, List, [], ◌∷◌, is_some, Some, None, Ok, Err, Option, sym, refl, ap, ◌∙◌, subst, arith}
+use Rattle.std.proofs.Common.{◌≡◌, ℕ, ◌<◌, ◌≤◌, false, leb, List, [], is_some, Some, None, Ok, Err, Option, sym, refl, ap, ◌∙◌, arith}
 use Rattle.std.proofs.lemmas.Bool.{true≢false, cond-true, le-leb}
 use Rattle.refusals.specs.Refusals.{Notice, no_room}
 use Rattle.refusals.specs.declared.refusal.RoomFault.{RoomFault}
@@ -11,7 +11,7 @@ use Rattle.ends.specs.declared.faults.EndFault.{EndFault}
 use Rattle.ends.specs.declared.faults.EndFault.TheVariants.{Room, Ledger}
 use Rattle.ends.specs.Ends.{smtp_starts}
 use Rattle.ends.specs.Faults.{reply_of}
-use Rattle.ends.specs.Filing.{kept, Answered, answered-filed, answered_turned, answered-ledger}
+use Rattle.ends.specs.Filing.{kept, Answered, answered_turned, answered-ledger}
 use Rattle.ends.specs.Steps.{Alone}
 
 pub same-fault : (f g : RoomFault) → no_room f ≡ no_room g → f ≡ g

@@ -1,5 +1,5 @@
 -- What a command line is judged to be.
-use Rattle.std.specs.Prelude.{◌≡◌, ℕ, ◌<◌, Bool, true, false, ◌⊎◌, List, [], Some, Option, ◌≢◌}
+use Rattle.std.specs.Prelude.{◌≡◌, ℕ, ◌<◌, Bool, true, false, ◌⊎◌, List, [], Some, ◌≢◌}
 use Rattle.address.specs.Parts.{IsDomain, Only}
 use Rattle.paths.specs.Paths.{fault_number}
 use Rattle.command.specs.Arguments.{IsMail, IsRcpt, mail_syntax, rcpt_syntax}

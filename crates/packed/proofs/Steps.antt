@@ -1,18 +1,18 @@
 -- What staging, withdrawing and removing leave of a log's memory.
-use Rattle.std.proofs.Common.{◌≡◌, ℕ, suc, ◌+◌, ◌-◌, ◌<◌, ◌≤◌, List, [], ◌∷◌, ◌++◌, map, length, get_or, take, drop, Some, None, sym, refl, ap, ◌∙◌, subst, zero-add, add-one, arith}
+use Rattle.std.proofs.Common.{◌≡◌, ℕ, suc, ◌+◌, ◌-◌, ◌<◌, ◌≤◌, List, [], ◌∷◌, ◌++◌, map, length, get_or, take, drop, sym, ap, ◌∙◌, subst, add-one, arith}
 use Rattle.std.specs.Vec.{with_items}
-use Rattle.std.specs.List.{slice_get, remove}
+use Rattle.std.specs.List.{remove}
 use Rattle.std.proofs.lemmas.List.{length-take-le, length-drop, length-append, length-map, take-take, take_at, drop_at, take-append-drop, get_or-take, get_or-drop, get_or-map, get_or-append_right, same_lists, with_items_is}
 use Rattle.std.proofs.lemmas.List.Edits.{length-remove}
 use Rattle.std.proofs.lemmas.Option.{slice_get-get_or}
 use Rattle.spool.specs.Entries.{Entry}
 use Rattle.spool.specs.declared.list.OrderedList.{OrderedList}
 use Rattle.spool.proofs.Owned.{Now}
-use Rattle.packed.specs.Meaning.{entries_of, held_of}
+use Rattle.packed.specs.Meaning.{entries_of}
 use Rattle.packed.specs.Packing.{total, cut, offsets, starts, lowered}
 use Rattle.packed.specs.declared.log.PackedLog.{PackedLog}
 use Rattle.packed.specs.declared.row.LogRow.{LogRow}
-use Rattle.packed.specs.Cuts.{grows, shrinks, left, offset_nth, gapless_back, total-nth, length_cut}
+use Rattle.packed.specs.Cuts.{grows, shrinks, left, offset_nth, gapless_back}
 use Rattle.packed.specs.Logs.{rows_of, packed, Free, Known, entries-length}
 use Rattle.spool.proofs.Places.{split_at}
 

@@ -1,8 +1,8 @@
 -- Laws of payloads that lie without gaps.
-use Rattle.std.specs.Prelude.{◌≡◌, ℕ, zero, suc, ◌+◌, ◌-◌, ◌<◌, ◌≤◌, List, [], ◌∷◌, ◌++◌, map, length, take, drop, Some, None, refl}
+use Rattle.std.specs.Prelude.{◌≡◌, ℕ, zero, suc, ◌+◌, ◌-◌, ◌≤◌, List, [], ◌∷◌, ◌++◌, map, length, take, drop, Some, refl}
 use Rattle.std.proofs.Common.{sym, ap, ◌∙◌, subst, add_assoc, zero-add, add-zero, arith}
 use Rattle.std.specs.List.{slice_get, remove}
-use Rattle.std.proofs.lemmas.List.{length-take-le, length-drop, take-take, take_all, take-append-le, drop-append-le, drop-drop, drop-take, take-append-drop, nil_from_length, append_cancel_left}
+use Rattle.std.proofs.lemmas.List.{length-take-le, length-drop, take-take, take_all, take-append-le, drop-append-le, drop-drop, drop-take, take-append-drop, nil_from_length}
 use Rattle.spool.specs.Entries.{Entry}
 use Rattle.packed.specs.Packing.{total, cut, offsets, starts, lowered}
 use Rattle.packed.specs.declared.row.LogRow.{LogRow}

@@ -1,5 +1,5 @@
 -- What a packed log means as a spool.
-use Rattle.std.specs.Prelude.{ℕ, ◌-◌, ◌≤◌, cond, List, length, take, drop, Some, None, vec_items, Option, Vec, nat_le, nat_lt}
+use Rattle.std.specs.Prelude.{ℕ, ◌-◌, ◌≤◌, cond, List, length, take, drop, Some, None, vec_items, Option, nat_le, nat_lt}
 use Rattle.spool.specs.Entries.{Entry}
 use Rattle.refusals.specs.declared.refusal.RoomFault.{RoomFault}
 use Rattle.packed.specs.Packing.{cut}

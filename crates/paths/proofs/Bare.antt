@@ -1,14 +1,14 @@
 -- "<>" and "<Postmaster>" are no paths.
-use Rattle.std.proofs.Common.{◌≡◌, ℕ, ◌+◌, ◌-◌, ◌<◌, ◌≤◌, min, Bool, true, false, cond, ◌&&◌, ◌||◌, eqb, ltb, leb, ◌⊎◌, List, [], ◌∷◌, ◌++◌, map, length, get_or, take, drop, codes, sym, refl, ap, ◌∙◌, subst, inl, inr, arith, lit≤}
+use Rattle.std.proofs.Common.{◌≡◌, ℕ, ◌+◌, ◌-◌, ◌≤◌, min, true, false, eqb, List, [], ◌∷◌, ◌++◌, map, length, get_or, take, drop, codes, sym, refl, ap, ◌∙◌, subst, inl, inr, arith}
 use lib.Seq.{take-nil}
 use Rattle.std.specs.List.{between, prefix_len, AllByRecursion as All}
 use Rattle.std.specs.Char.{to_ascii_lowercase}
 use Rattle.std.proofs.ByRecursion.{All-weaker}
-use Rattle.std.proofs.lemmas.List.{append_assoc, length-append, length-map, drop_at, take_at, take_all, drop_all, length-drop, drop_more}
+use Rattle.std.proofs.lemmas.List.{append_assoc, length-append, length-map, drop_at, take_at, take_all, drop_all, length-drop}
 use Rattle.std.proofs.lemmas.Bool.{or_left, cases_lt}
 use Rattle.std.proofs.lemmas.Bool.Decides.{nat_tests}
-use Rattle.address.specs.Classes.{atext, let_dig, one_of}
-use Rattle.address.specs.Words.{AllIn, or_dot, Dotted, IsAtom, pieces}
+use Rattle.address.specs.Classes.{atext, let_dig}
+use Rattle.address.specs.Words.{AllIn, or_dot, Dotted, IsAtom}
 use Rattle.address.specs.Parts.{LocalForm, LocalAt, Only}
 use Rattle.paths.specs.Paths.{PathAt}
 use Rattle.address.specs.Comparison.{IsPostmaster}
@@ -21,7 +21,7 @@ use Rattle.paths.specs.declared.path.Path.{Path}
 use Rattle.address.specs.declared.words.Word.TheVariants.{Atom}
 use Rattle.address.proofs.Runs.{passes_apart, stops_at, leading_is, pieces_word}
 use Rattle.address.proofs.Fronts.{none_atoms, only_atoms}
-use Rattle.paths.proofs.Reading.{Parts, parts_of}
+use Rattle.paths.proofs.Reading.{parts_of}
 
 atom_62 : or_dot atext 62 ≡ false
 unfolding atext let_dig

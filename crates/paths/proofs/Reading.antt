@@ -1,11 +1,11 @@
 -- A path is read part by part.
-use Rattle.std.proofs.Common.{◌≡◌, ℕ, ◌+◌, ◌-◌, ◌<◌, ◌≤◌, Bool, true, false, ◌⊎◌, List, [], ◌∷◌, ◌++◌, length, get_or, take, drop, sym, refl, ap, ◌∙◌, subst, inl, inr, arith}
+use Rattle.std.proofs.Common.{◌≡◌, ℕ, ◌+◌, false, List, ◌∷◌, ◌++◌, length, take, drop, sym, refl, ap, ◌∙◌, subst, inl, inr, arith}
 use Rattle.std.specs.List.{prefix_len}
 use Rattle.std.proofs.lemmas.List.{take-append-drop, drop_at, length-take-le}
 use Rattle.address.specs.Classes.{atext, let_dig}
 use Rattle.address.specs.Words.{or_dot, label_octet}
-use Rattle.address.specs.Parts.{IsLocal, IsDomain, LocalAt, DomainAt, Only}
-use Rattle.paths.specs.Paths.{PathAt, Unopened, NoLocal, NoDomain, Unclosed, Faulty, Fault}
+use Rattle.address.specs.Parts.{LocalAt, DomainAt, Only}
+use Rattle.paths.specs.Paths.{PathAt, Fault}
 use Rattle.paths.specs.declared.path.Path.{Path}
 use Rattle.address.proofs.Runs.{stops_at}
 use Rattle.address.proofs.Fronts.{local_front, domain_front, local-within, domain-within, local_is, domain_is}

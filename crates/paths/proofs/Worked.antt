@@ -1,14 +1,12 @@
 -- The worked examples hold.
-use Rattle.std.proofs.Common.{◌≡◌, ℕ, ◌+◌, ◌<◌, ◌≤◌, true, false, List, [], ◌∷◌, ◌++◌, length, get_or, take, drop, codes, sym, refl, ap, ◌∙◌, subst, inl, inr, arith}
-use Rattle.std.specs.List.{prefix_len}
+use Rattle.std.proofs.Common.{◌≡◌, ℕ, ◌<◌, ◌≤◌, List, [], ◌∷◌, ◌++◌, length, get_or, take, codes, refl, ap, subst, inl, inr, arith}
 use Rattle.std.proofs.lemmas.Bool.{false≢true}
 use Rattle.address.specs.Classes.{atext, let_dig}
-use Rattle.address.specs.Words.{AllIn, or_dot, label_octet, IsAtom, IsLabel, Dotted}
-use Rattle.address.specs.Parts.{LocalForm, LocalAt, DomainAt, IsLocal, IsDomain, Only}
-use Rattle.paths.specs.Paths.{PathAt, Fault}
+use Rattle.address.specs.Words.{AllIn, or_dot, IsAtom, IsLabel, Dotted}
+use Rattle.address.specs.Parts.{LocalForm, LocalAt, DomainAt, IsDomain, Only}
 use Rattle.paths.specs.Examples.{Examples}
 use Rattle.address.specs.declared.words.Word.TheVariants.{Atom, Label}
-use Rattle.address.proofs.Runs.{passes_apart, stops_at, leading_is}
+use Rattle.address.proofs.Runs.{passes_apart, leading_is}
 use Rattle.address.proofs.Fronts.{none_atoms, only_atoms, opens, atoms_pass}
 use Rattle.paths.proofs.Reading.{no_local, no_label, no_closing}
 

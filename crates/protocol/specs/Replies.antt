@@ -1,6 +1,5 @@
 -- Every reply: its code, the values that it carries, and its octets.
-use Rattle.std.specs.Prelude.{ℕ, ◌+◌, ◌/◌, ◌%◌, ◌<◌, ◌≤◌, List, [], ◌∷◌, ◌++◌, length, codes, decimal}
-use Rattle.std.specs.List.{AllByRecursion as All}
+use Rattle.std.specs.Prelude.{ℕ, ◌+◌, ◌/◌, ◌%◌, List, [], ◌∷◌, ◌++◌, codes, decimal}
 use Rattle.protocol.specs.declared.reply.Reply.{Reply}
 use Rattle.protocol.specs.declared.reply.Reply.TheVariants.{Greeting, Closing, Hello, Extensions, Done, CannotVerify, GoAhead, TooManyRecipients, LedgerFull, NoRoom, UnknownCommand, BadPath, BadArgument, OutOfOrder, NoSuchMailbox, TooLarge, UnknownParameter}
 

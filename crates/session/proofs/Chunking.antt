@@ -1,8 +1,7 @@
 -- What the octets of a chunk come to.
-use Rattle.std.proofs.Common.{◌≡◌, ℕ, ◌+◌, ◌-◌, ◌%◌, ◌^◌, ◌<◌, ◌≤◌, min, Bool, true, false, cond, leb, List, [], ◌∷◌, ◌++◌, length, take, Some, None, Option, sym, refl, ap, ◌∙◌, subst, inl, inr, arith}
-use Rattle.std.specs.Option.{option_map}
+use Rattle.std.proofs.Common.{◌≡◌, ℕ, ◌+◌, ◌-◌, ◌^◌, ◌<◌, ◌≤◌, min, Bool, true, false, cond, leb, List, [], ◌++◌, length, take, Some, None, sym, refl, ap, ◌∙◌, subst, inl, arith}
 use Rattle.std.proofs.lemmas.List.{append-nil, length-append, length-take, length-take-le}
-use Rattle.std.proofs.lemmas.Bool.{cond-false, cond-true, leb-true, true≢false}
+use Rattle.std.proofs.lemmas.Bool.{cond-false, cond-true, leb-true}
 use Rattle.command.specs.declared.chunk.Chunk.{Chunk}
 use Rattle.judgement.specs.Judgements.{JudgedAs}
 use Rattle.judgement.specs.declared.judged.Judged.TheVariants as judged
@@ -16,9 +15,7 @@ use Rattle.spool.specs.Lists.{records}
 use Rattle.spool.proofs.Fronts.{front_is}
 use Rattle.session.specs.Standings.{Standing, commands, idle, most, takes_chunks}
 use Rattle.session.specs.Turns.{Setting, Place, Outcome, Turned, answered, chunk, chunk_after, chunk_area, chunk_outcome, ends, joined_after, joined_chunk, joins, laid, line_in, oversized_after, oversized_chunk}
-use Rattle.session.specs.Places.{After, Based, Came, ChunkEnds, InLine, InMode, Stands, Started, TurnEnds, mailboxes, standing_of}
-use Rattle.session.specs.declared.session.Event.{Event}
-use Rattle.session.specs.declared.session.Event.TheVariants.{Answered, MessageEnd}
+use Rattle.session.specs.Places.{Based, Came, InMode, Started, TurnEnds, mailboxes, standing_of}
 use Rattle.session.specs.declared.session.Mode.{Mode}
 use Rattle.session.specs.declared.session.Mode.TheVariants as mode
 use Rattle.session.specs.declared.session.Session.{Session}

@@ -1,7 +1,7 @@
 -- What octets of a line, of a chunk and of a data part come to, whatever came before them.
 use Rattle.std.proofs.Common.{◌≡◌, ℕ, ◌+◌, ◌-◌, ◌^◌, ◌<◌, ◌≤◌, min, Bool, true, false, cond, ltb, leb, ◌⊎◌, List, [], ◌∷◌, ◌++◌, length, take, drop, Some, None, Option, sym, refl, ap, ◌∙◌, subst, inl, inr, append_assoc, arith}
 use Rattle.std.specs.Option.{option_map}
-use Rattle.std.proofs.lemmas.List.{length-append, length-take-le}
+use Rattle.std.proofs.lemmas.List.{length-append}
 use Rattle.std.proofs.lemmas.Bool.{cond-false, cond-true, le-leb, leb-true, lt-leb, ltb-false, ltb-true}
 use Rattle.command.specs.Lines.{argument_part}
 use Rattle.command.specs.declared.argument.RcptLine.{RcptLine}
@@ -14,17 +14,17 @@ use Rattle.judgement.specs.declared.phase.Phase.{Phase}
 use Rattle.judgement.specs.declared.phase.Phase.TheVariants as phase
 use Rattle.paths.specs.Envelopes.{domain_part, local_part}
 use Rattle.protocol.specs.Buffers.{LineEnds, LinePushed, LineStands, kept, longest}
-use Rattle.protocol.specs.DataParts.{DataEnds, DataStands, DataTook, Laid}
+use Rattle.protocol.specs.DataParts.{DataEnds, DataStands, DataTook}
 use Rattle.protocol.specs.Lines.{Unbroken, ended, trim}
 use Rattle.protocol.specs.Outputs.{overlaid, put}
 use Rattle.protocol.specs.declared.line.LineBuffer.{LineBuffer}
 use Rattle.protocol.specs.declared.part.DataPart.{DataPart}
 use Rattle.protocol.specs.declared.reply.Reply.{Reply}
-use Rattle.protocol.proofs.Laying.{laid-whole, laid_long as laid-area}
+use Rattle.protocol.proofs.Laying.{laid-whole}
 use Rattle.spool.specs.Lists.{records}
-use Rattle.session.specs.Standings.{Standing, answer, commands, heeded, idle, most, recipient, takes_chunks}
+use Rattle.session.specs.Standings.{Standing, answer, commands, heeded, idle, recipient, takes_chunks}
 use Rattle.session.specs.Turns.{Enrols, Outcome, Place, Setting, Turned, answered, asked_by, command, ends, joins, laid, line_in, message, within}
-use Rattle.session.specs.Places.{After, Announced, Based, Came, ChunkEnds, Hears, InChunk, InData, InLine, InMode, Obeyed, Ready, Stands, Started, TurnEnds, for_data, for_line, for_none, mailboxes, standing_of}
+use Rattle.session.specs.Places.{After, Announced, Based, Came, ChunkEnds, Hears, InChunk, InData, InLine, InMode, Obeyed, Ready, Stands, Started, TurnEnds, for_data, for_line, for_none, standing_of}
 use Rattle.session.specs.Seeking.{Seeks}
 use Rattle.session.specs.declared.session.ChunkPart.{ChunkPart}
 use Rattle.session.specs.declared.session.Event.{Event}
@@ -32,7 +32,7 @@ use Rattle.session.specs.declared.session.Event.TheVariants.{Answered, MessageEn
 use Rattle.session.specs.declared.session.Mode.{Mode}
 use Rattle.session.specs.declared.session.Mode.TheVariants as mode
 use Rattle.session.specs.declared.session.Session.{Session}
-use Rattle.session.proofs.Chunking.{in_line, lined, payload_is, payload_long, people_are, phase_is}
+use Rattle.session.proofs.Chunking.{in_line, lined, payload_long, people_are, phase_is}
 use Rattle.session.proofs.Laying.{laid_long, laid_more}
 use Rattle.session.proofs.Obeying.{idle_is}
 

@@ -1,6 +1,6 @@
 -- Octets at the front of an area.
-use Rattle.std.proofs.Common.{◌≡◌, ℕ, ◌+◌, ◌<◌, ◌≤◌, List, [], ◌∷◌, ◌++◌, length, take, drop, sym, refl, ap, ◌∙◌, zero-add, arith}
-use Rattle.std.proofs.lemmas.List.{append-nil, length-append, length-drop, length-take, length-take-le, take_all, take-append-drop, take-append-le}
+use Rattle.std.proofs.Common.{◌≡◌, ℕ, ◌+◌, ◌≤◌, List, ◌++◌, length, take, drop, sym, ap, ◌∙◌, zero-add, arith}
+use Rattle.std.proofs.lemmas.List.{length-append, length-drop, length-take, length-take-le, take_all, take-append-drop, take-append-le}
 use Rattle.protocol.specs.Outputs.{overlaid}
 use Rattle.protocol.proofs.Overlays.{overlaid-both}
 use Rattle.session.specs.Turns.{laid}

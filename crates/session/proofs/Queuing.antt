@@ -1,6 +1,6 @@
 -- The replies that wait, by how many there are and how many were written.
-use Rattle.std.proofs.Common.{◌≡◌, ℕ, suc, ◌+◌, ◌-◌, ◌<◌, ◌≤◌, min, List, [], ◌∷◌, length, get_or, take, drop, Some, None, sym, refl, ap, ◌∙◌, add-one, arith, drop-cons}
-use Rattle.std.proofs.lemmas.List.{drop_all, drop-drop, get_or-take, length-drop, length-take, length-take-le}
+use Rattle.std.proofs.Common.{◌≡◌, ℕ, ◌+◌, ◌-◌, ◌<◌, ◌≤◌, List, [], length, get_or, take, drop, Some, sym, ap, ◌∙◌, arith, drop-cons}
+use Rattle.std.proofs.lemmas.List.{drop_all, drop-drop, get_or-take, length-drop, length-take-le}
 use Rattle.protocol.specs.declared.reply.Reply.{Reply}
 use Rattle.session.specs.Queues.{first}
 

@@ -1,5 +1,5 @@
 -- What the records of a session, its area and its sheet stand for, however its octets came.
-use Rattle.std.specs.Prelude.{◌≡◌, ℕ, ◌%◌, ◌<◌, ◌≤◌, Bool, true, false, cond, ◌⊎◌, List, [], ◌∷◌, ◌++◌, map, length, take, replicate, Some, None, Option}
+use Rattle.std.specs.Prelude.{◌≡◌, ℕ, ◌%◌, ◌≤◌, Bool, true, cond, ◌⊎◌, List, [], ◌++◌, map, length, take, replicate, Some, Option}
 use Rattle.std.specs.Option.{option_map}
 use Rattle.command.specs.declared.chunk.Chunk.{Chunk}
 use Rattle.judgement.specs.Judgements.{JudgedAs}

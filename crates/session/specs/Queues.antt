@@ -1,5 +1,5 @@
 -- Replies that wait to be written, in order.
-use Rattle.std.specs.Prelude.{ℕ, List, [], ◌∷◌, take, drop, Some, None, Option}
+use Rattle.std.specs.Prelude.{List, [], ◌∷◌, take, drop, Some, None, Option}
 use Rattle.protocol.specs.declared.reply.Reply.{Reply}
 use Rattle.session.specs.declared.waiting.Waiting.{Waiting}
 

@@ -1,5 +1,5 @@
 -- The directory is asked for the recipient of an RCPT line, and for no other line.
-use Rattle.std.specs.Prelude.{◌≡◌, ℕ, List, drop, None, Option}
+use Rattle.std.specs.Prelude.{◌≡◌, ℕ, List, drop, Option}
 use Rattle.command.specs.Lines.{argument_part}
 use Rattle.command.specs.declared.argument.RcptLine.{RcptLine}
 use Rattle.judgement.specs.declared.judged.Judged.{Judged}

@@ -1,7 +1,7 @@
 -- An ordered list in a Vec: what it holds after an operation that is let through.
-use Rattle.std.proofs.Common.{◌≡◌, ℕ, ◌+◌, ◌-◌, ◌<◌, ◌≤◌, true, false, leb, List, ◌++◌, length, take, drop, is_ok, Ok, Err, Result, Vec, sym, refl, ap, ◌∙◌, arith}
+use Rattle.std.proofs.Common.{◌≡◌, ℕ, ◌+◌, ◌≤◌, true, leb, List, ◌++◌, length, take, drop, is_ok, Ok, Err, Result, Vec, refl, ap, ◌∙◌, arith}
 use Rattle.std.specs.Vec.{with_items}
-use Rattle.std.proofs.lemmas.List.{length-take-le, length-drop, length-append, with_items_is}
+use Rattle.std.proofs.lemmas.List.{length-take-le, with_items_is}
 use Rattle.std.proofs.lemmas.Bool.{cond-true, le-leb}
 use Rattle.spool.specs.Lists.{records, appends, appended, removes, remaining}
 use Rattle.refusals.specs.Refusals.{told}

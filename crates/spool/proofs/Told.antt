@@ -1,15 +1,14 @@
 -- Laws of what a spool's calls answer and leave, for those who implement or use one.
-use Rattle.std.proofs.Common.{◌≡◌, ℕ, zero, suc, ◌+◌, ◌<◌, ◌≤◌, true, false, cond, ltb, leb, List, [], ◌∷◌, ◌++◌, length, drop, Some, None, Ok, Err, Option, Result, sym, refl, ap, ◌∙◌, inl, inr, arith}
+use Rattle.std.proofs.Common.{◌≡◌, ℕ, zero, suc, ◌<◌, ◌≤◌, ltb, leb, List, [], ◌∷◌, ◌++◌, length, drop, Some, None, Ok, Err, Option, Result, sym, refl, ap, ◌∙◌, inl, inr, arith}
 use Rattle.std.specs.List.{slice_get, remove}
 use Rattle.std.specs.Option.{option_map}
 use Rattle.std.proofs.lemmas.Bool.{cases_lt, cond-true, cond-false, lt-ltb, le-ltb, le-leb, lt-leb}
 use Rattle.spool.specs.Entries.{Entry}
 use Rattle.spool.specs.Lists.{present}
-use Rattle.refusals.specs.Refusals.{Notice, plain, no_room, notice, told}
-use Rattle.spool.specs.Rules.{staged, stages, stages_into, grown, extended, unless_fault, asks_room, removes, remains, summary, tells, copies_of, copies, copied, copied_of}
+use Rattle.refusals.specs.Refusals.{Notice, plain, no_room}
+use Rattle.spool.specs.Rules.{stages, stages_into, grown, extended, unless_fault, asks_room, removes, remains, summary, tells, copies_of, copies, copied, copied_of}
 use Rattle.spool.specs.declared.entry.Summary.{Summary}
 use Rattle.refusals.specs.declared.refusal.RoomFault.{RoomFault}
-use Rattle.refusals.specs.declared.refusal.Refusal.{Refusal}
 use Rattle.spool.proofs.Fronts.{nth_absent}
 use Rattle.spool.proofs.Places.{nth-within}
 

@@ -92,6 +92,7 @@ pub(crate) fn holds<S: Spool>(spool: &S, at: usize, mailbox: usize, seed: u8) ->
     };
     let mut buffer = [250; 130];
     let length = spool.copy(at, &mut buffer).unwrap_or(0);
-    let is_same = &buffer[0..128] == payload(seed).as_slice() && &buffer[128..130] == [250, 250].as_slice();
+    let is_same = &buffer[0..128] == payload(seed).as_slice()
+        && &buffer[128..130] == [250, 250].as_slice();
     is_same && length == 128 && summary.length == 128 && summary.mailbox == mailbox
 }

@@ -1,5 +1,5 @@
 use lib.Bits.{bit_and}
-use Rattle.std.proofs.Common.{◌≡◌, ℕ, ◌+◌, Bool, true, false, cond, not, ◌&&◌, T, eqb, refl, ap, ◌∙◌}
+use Rattle.std.proofs.Common.{◌≡◌, ℕ, ◌+◌, Bool, true, false, cond, not, eqb, refl, ap, ◌∙◌}
 use Rattle.address.specs.Classes.{atext, qtext, let_dig, printable, classes_of, member, weight_of}
 use Rattle.address.specs.declared.classes.Class.{Class}
 use Rattle.address.specs.declared.classes.Class.TheVariants.{Atext, Qtext, LetDig, Printable}

@@ -1,7 +1,7 @@
-use Rattle.std.proofs.Common.{◌≡◌, ℕ, ◌+◌, ◌<◌, ◌≤◌, List, [], ◌∷◌, length, get_or, take, drop, sym, refl, ap, ◌∙◌, subst, inl, inr, arith}
+use Rattle.std.proofs.Common.{◌≡◌, ℕ, ◌<◌, length, get_or, take, sym, refl, ◌∙◌, subst, arith}
 use Rattle.std.specs.List.{prefix_len, AllByRecursion as All}
 use Rattle.std.proofs.lemmas.Bool.{true≢false}
-use Rattle.address.specs.Words.{word_octet, or_dot, run, Dotted, IsWord, pieces}
+use Rattle.address.specs.Words.{word_octet, or_dot, Dotted, IsWord}
 use Rattle.address.proofs.Labels.{dotless}
 use Rattle.address.proofs.Runs.{word_within, word_octets, word_first, word_last, word_next}
 use Rattle.address.proofs.words.dotted.Goals as goal

@@ -1,9 +1,8 @@
-use Rattle.std.proofs.Common.{◌≡◌, sym, refl, subst, arith}
+use Rattle.std.proofs.Common.{sym, refl, subst, arith}
 use Rattle.std.proofs.lemmas.List.Edits.{length-between}
 use Rattle.address.specs.Words.{AllIn, IsWord, word_octet}
 use Rattle.std.specs.List.{between}
 use Rattle.address.specs.declared.words.Word.{Word}
-use Rattle.address.specs.declared.words.Word.TheVariants.{Atom, Label}
 use Rattle.address.proofs.words.is_word.Goals as goal
 
 pub returns-in-Atom : goal.returns-in-Atom

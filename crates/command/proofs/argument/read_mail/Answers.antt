@@ -1,7 +1,7 @@
-use Rattle.std.proofs.Common.{◌≡◌, ℕ, List, refl, subst}
+use Rattle.std.proofs.Common.{ℕ, List, refl, subst}
 use Rattle.paths.specs.Envelopes.{ReverseAt}
 use Rattle.address.specs.Parts.{Only}
-use Rattle.command.specs.Arguments.{behind_path, mail_syntax}
+use Rattle.command.specs.Arguments.{mail_syntax}
 use Rattle.command.specs.Faults.{verdict}
 use Rattle.command.specs.Parameters.{Behind, Sized, size_only}
 use Rattle.command.proofs.Readings.{mail_only, mail_refused, rest_is}

@@ -1,7 +1,7 @@
-use Rattle.std.proofs.Common.{◌≡◌, ℕ, List, [], sym, refl, ◌∙◌, subst}
+use Rattle.std.proofs.Common.{ℕ, List, sym, refl, ◌∙◌, subst}
 use Rattle.paths.specs.Envelopes.{ForwardAt}
 use Rattle.address.specs.Parts.{Only}
-use Rattle.command.specs.Arguments.{behind_path, rcpt_syntax}
+use Rattle.command.specs.Arguments.{rcpt_syntax}
 use Rattle.command.specs.Faults.{verdict}
 use Rattle.command.specs.Parameters.{Behind, knows_none}
 use Rattle.command.proofs.Readings.{rcpt_only, rcpt_refused, rest_is}

@@ -1,5 +1,5 @@
 use Rattle.std.proofs.cmp.Tests.{cases_from_iff}
-use Rattle.std.proofs.Common.{◌≡◌, true, false, map, length, drop, sym, ap, ◌∙◌, arith}
+use Rattle.std.proofs.Common.{true, false, map, length, drop, sym, ap, ◌∙◌, arith}
 use Rattle.std.specs.Char.{to_ascii_lowercase}
 use Rattle.std.proofs.lemmas.List.{drop_all, length-drop}
 use Rattle.command.proofs.Counts.{chunk_short, chunk_long, chunk_ends, chunk_only, count-within, no_tail}

@@ -1,7 +1,7 @@
-use Rattle.std.proofs.Common.{◌≡◌, sym, ap, ◌∙◌, arith}
+use Rattle.std.proofs.Common.{arith}
 use Rattle.std.specs.Char.{is_ascii_digit}
 use Rattle.address.specs.Words.{run}
-use Rattle.command.specs.Numerals.{decimal_value, kept}
+use Rattle.command.specs.Numerals.{decimal_value}
 use Rattle.command.proofs.Counts.{numeral_count, numeral_from}
 use Rattle.command.proofs.numeral.numeral.Goals as goal
 

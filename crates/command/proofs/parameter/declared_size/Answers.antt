@@ -1,4 +1,4 @@
-use Rattle.std.proofs.Common.{◌≡◌, ℕ, List, sym, refl, subst, inl, inr}
+use Rattle.std.proofs.Common.{ℕ, List, sym, refl, subst, inl, inr}
 use Rattle.command.specs.Numerals.{IsNumeral}
 use Rattle.command.proofs.parameter.declared_size.Goals as goal
 

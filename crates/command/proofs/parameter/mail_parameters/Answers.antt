@@ -1,4 +1,4 @@
-use Rattle.std.proofs.Common.{◌≡◌, refl, inl, inr, arith}
+use Rattle.std.proofs.Common.{refl, inl, arith}
 use Rattle.command.specs.Faults.{verdict}
 use Rattle.command.specs.Parameters.{size_only}
 use Rattle.command.proofs.Judging.{first-wrong, size-alone, size_none, size_then, unparted_by}

@@ -1,4 +1,4 @@
-use Rattle.std.proofs.Common.{◌≡◌, [], length, refl, ap, inl, inr, arith}
+use Rattle.std.proofs.Common.{length, refl, ap, inl, inr, arith}
 use Rattle.std.proofs.lemmas.List.{nil_from_length}
 use Rattle.command.specs.Faults.{bad_argument, unknown_parameter}
 use Rattle.command.specs.Parameters.{knows_none}

@@ -1,4 +1,4 @@
-use Rattle.std.proofs.Common.{◌≡◌, List, [], ◌∷◌, refl, subst}
+use Rattle.std.proofs.Common.{List, [], ◌∷◌, refl, subst}
 use Rattle.spool.specs.Entries.{Entry}
 use Rattle.ends.specs.Filing.{entry, answered-filed}
 use Rattle.ends.specs.Ledgers.{counts_of, Counted}

@@ -1,7 +1,6 @@
-use Rattle.std.proofs.Common.{◌≡◌, sym, ap, ◌∙◌, subst, arith}
+use Rattle.std.proofs.Common.{sym, ap, ◌∙◌, subst, arith}
 use Rattle.refusals.specs.Refusals.{Notice, notice}
 use Rattle.refusals.specs.declared.refusal.RoomFault.{RoomFault}
-use Rattle.spool.specs.Entries.{Entry}
 use Rattle.filing.specs.Lots.{Turned}
 use Rattle.ends.specs.Filing.{entry}
 use Rattle.ends.proofs.Faulting.{same-fault, declined}

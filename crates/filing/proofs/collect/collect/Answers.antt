@@ -1,6 +1,5 @@
-use Rattle.std.proofs.Common.{◌≡◌, ◌<◌, ◌≤◌, ◌++◌, length, drop, Some, None, Ok, Err, sym, refl, ap, ◌∙◌, arith}
+use Rattle.std.proofs.Common.{◌≡◌, ◌≤◌, length, None, Ok, sym, refl, ap, ◌∙◌, arith}
 use Rattle.std.proofs.lemmas.Bool.{true≢false, false≢true}
-use Rattle.spool.specs.Rules.{copied, remains}
 use Rattle.spool.proofs.Places.{nth-within}
 use Rattle.spool.proofs.Told.{copied_done, remains_done}
 use Rattle.filing.specs.Collecting.{in_front}

@@ -1,4 +1,4 @@
-use Rattle.std.proofs.Common.{◌+◌, ◌++◌, arith}
+use Rattle.std.proofs.Common.{◌++◌, arith}
 use Rattle.std.proofs.lemmas.List.{length-append}
 use Rattle.protocol.proofs.Overlays.{Put, put_more, put_done, put_refused}
 use Rattle.protocol.proofs.reply.put_parts.Goals as goal

@@ -1,4 +1,4 @@
-use Rattle.std.proofs.Common.{ℕ, ◌<◌, List, length, vec_items, refl, subst}
+use Rattle.std.proofs.Common.{ℕ, ◌<◌, List, vec_items, refl, subst}
 use Rattle.std.proofs.ByRecursion.{All-get_or}
 use Rattle.directory.specs.Rows.{GoodRow, GoodRows, GoodMailboxes}
 use Rattle.directory.specs.declared.row.DirectoryRow.{DirectoryRow}

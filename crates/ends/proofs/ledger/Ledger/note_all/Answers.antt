@@ -1,4 +1,4 @@
-use Rattle.std.proofs.Common.{◌≡◌, ℕ, ◌%◌, List, [], ◌∷◌, map, get_or, take, sym, subst, arith}
+use Rattle.std.proofs.Common.{ℕ, ◌%◌, List, [], ◌∷◌, map, get_or, take, sym, subst, arith}
 use Rattle.std.proofs.lemmas.List.{length-map, length-take, take_all}
 use Rattle.spool.specs.Entries.{Entry}
 use Rattle.ends.specs.Filing.{entry}

@@ -1,4 +1,4 @@
-use Rattle.std.proofs.Common.{◌≡◌, ℕ, ◌+◌, ◌-◌, true, List, ◌++◌, length, take, sym, refl, ap, subst, arith}
+use Rattle.std.proofs.Common.{◌≡◌, ℕ, ◌-◌, true, List, ◌++◌, length, take, sym, refl, ap, subst, arith}
 use Rattle.protocol.specs.DataParts.{Laid}
 use Rattle.protocol.specs.Outputs.{overlaid}
 use Rattle.protocol.proofs.Laying.{adds_all, adds_part, adds_none}

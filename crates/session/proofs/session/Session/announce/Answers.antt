@@ -1,8 +1,8 @@
-use Rattle.std.proofs.Common.{◌≡◌, ℕ, List, [], ◌++◌, length, sym, refl, ap, ◌∙◌, subst, arith}
+use Rattle.std.proofs.Common.{ℕ, List, [], sym, refl, subst}
 use Rattle.std.proofs.lemmas.List.{append-nil}
 use Rattle.protocol.specs.Lines.{ended}
 use Rattle.session.specs.Places.{After}
-use Rattle.session.proofs.Chunking.{came_none, lined}
+use Rattle.session.proofs.Chunking.{came_none}
 use Rattle.session.proofs.session.Session.announce.Goals as goal
 
 pub returns-then-chunk-eq0 : goal.returns-then-chunk-eq0

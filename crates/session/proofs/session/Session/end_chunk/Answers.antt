@@ -1,4 +1,4 @@
-use Rattle.std.proofs.Common.{◌≡◌, ◌^◌, ◌<◌, ◌++◌, length, sym, refl, ap, ◌∙◌, subst, arith}
+use Rattle.std.proofs.Common.{◌^◌, ◌<◌, ◌++◌, length, sym, refl, subst, arith}
 use Rattle.protocol.specs.Lines.{ended}
 use Rattle.session.specs.Places.{After}
 use Rattle.session.specs.declared.session.Event.{Event}

@@ -1,4 +1,4 @@
-use Rattle.std.proofs.Common.{◌≡◌, sym, refl, ap, ◌∙◌, subst}
+use Rattle.std.proofs.Common.{refl}
 use Rattle.session.specs.Places.{setting_of}
 use Rattle.session.proofs.Hearing.{announce_hears, obey_hears}
 use Rattle.session.proofs.session.Session.hear_line.Goals as goal

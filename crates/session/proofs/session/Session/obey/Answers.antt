@@ -1,9 +1,8 @@
-use Rattle.std.proofs.Common.{◌≡◌, ℕ, Bool, true, false, List, Some, sym, refl, ap, ◌∙◌}
-use Rattle.judgement.specs.declared.judged.Judged.TheVariants as judged
+use Rattle.std.proofs.Common.{Bool, Some, sym, refl, ap, ◌∙◌}
 use Rattle.judgement.specs.declared.phase.Phase.{Phase}
 use Rattle.judgement.specs.declared.phase.Phase.TheVariants as phase
 use Rattle.protocol.specs.declared.reply.Reply.TheVariants as reply
-use Rattle.session.specs.Standings.{Answer, after_reset, answer, commands, heeded, idle, moved, refused}
+use Rattle.session.specs.Standings.{answer, commands, heeded, idle, refused}
 use Rattle.session.specs.Places.{for_data, standing_of}
 use Rattle.session.specs.declared.session.Mode.TheVariants as mode
 use Rattle.session.proofs.Obeying.{ended-line, obeyed_moved, obeyed_start, obeyed_still, resets}

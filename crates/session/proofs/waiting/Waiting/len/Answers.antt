@@ -1,4 +1,3 @@
-use Rattle.std.proofs.Common.{◌≡◌, length, sym, refl, ap, ◌∙◌, arith}
 use Rattle.session.proofs.Queuing.{wait_count}
 use Rattle.session.proofs.waiting.Waiting.len.Goals as goal
 

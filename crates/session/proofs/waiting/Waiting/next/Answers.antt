@@ -1,4 +1,4 @@
-use Rattle.std.proofs.Common.{◌≡◌, length, sym, refl, ap, ◌∙◌, arith}
+use Rattle.std.proofs.Common.{sym, ap}
 use Rattle.session.specs.Queues.{first}
 use Rattle.session.proofs.Queuing.{wait_first, wait_none}
 use Rattle.session.proofs.waiting.Waiting.next.Goals as goal

@@ -1,4 +1,4 @@
-use Rattle.std.proofs.Common.{◌≡◌, ℕ, min, length, sym, refl, ap, ◌∙◌, arith, rules}
+use Rattle.std.proofs.Common.{◌≡◌, min, length, sym, ap, ◌∙◌, rules}
 use Rattle.spool.proofs.Fronts.{front_is}
 use Rattle.session.proofs.waiting.Waiting.of.Goals as goal
 

@@ -1,4 +1,4 @@
-use Rattle.std.proofs.Common.{◌≡◌, length, drop, sym, refl, ap, ◌∙◌, arith}
+use Rattle.std.proofs.Common.{drop, sym, ap, ◌∙◌}
 use Rattle.session.proofs.Queuing.{wait_none, wait_passed}
 use Rattle.session.proofs.waiting.Waiting.pass.Goals as goal
 

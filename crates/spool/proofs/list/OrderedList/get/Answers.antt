@@ -1,4 +1,4 @@
-use Rattle.std.proofs.Common.{sym, ap, ◌∙◌, inl, inr, arith}
+use Rattle.std.proofs.Common.{sym, ap, inl, inr, arith}
 use Rattle.std.proofs.lemmas.List.{length-take}
 use Rattle.spool.specs.Lists.{present}
 use Rattle.spool.proofs.Fronts.{nth_front, nth_absent}

@@ -1,4 +1,4 @@
-use Rattle.std.proofs.Common.{◌≡◌, ◌+◌, ◌≤◌, ◌++◌, length, take, drop, Ok, Err, sym, ap, ◌∙◌, arith}
+use Rattle.std.proofs.Common.{◌≤◌, ◌++◌, length, take, drop, Ok, sym, ap, ◌∙◌, arith}
 use Rattle.spool.proofs.Told.{copies_past, copied_past, copies_short, copied_short, copies_done, copied_done}
 use Rattle.packed.specs.Meaning.{held_of}
 use Rattle.packed.specs.Cuts.{entry_at}

@@ -1,4 +1,4 @@
-use Rattle.std.proofs.Common.{◌≡◌, ◌+◌, ◌-◌, ◌∙◌, arith}
+use Rattle.std.proofs.Common.{◌+◌, ◌∙◌, arith}
 use Rattle.spool.specs.Rules.{staged}
 use Rattle.spool.proofs.Told.{tells_past}
 use Rattle.packed.specs.Meaning.{lot_of}

@@ -1,10 +1,10 @@
-use Rattle.std.proofs.Common.{◌≡◌, ◌≤◌, List, length, take, drop, Some, None, sym, refl, ap, ◌∙◌, subst, arith}
+use Rattle.std.proofs.Common.{◌≡◌, ◌≤◌, List, length, take, drop, Some, sym, refl, ap, ◌∙◌, subst, arith}
 use Rattle.std.proofs.lemmas.List.{take_all, take-take}
 use Rattle.std.proofs.lemmas.Bool.{cond-true}
-use Rattle.packed.specs.Meaning.{entries_of, held_of, lot_of}
+use Rattle.packed.specs.Meaning.{entries_of, lot_of}
 use Rattle.packed.specs.Packing.{cut, total, offsets, starts}
 use Rattle.packed.specs.declared.row.LogRow.{LogRow}
-use Rattle.packed.specs.Cuts.{gapless-take, total-take, length_cut}
+use Rattle.packed.specs.Cuts.{gapless-take, total-take}
 use Rattle.packed.specs.Logs.{rows_of, held_rows, held_length}
 use Rattle.spool.proofs.Places.{none_some}
 use Rattle.packed.proofs.log.edit.PackedLogSpool.withdraw.Goals as goal
