@@ -1,5 +1,5 @@
 -- A feed, step by step: what lasts from one step to the next.
-use Rattle.std.proofs.Common.{◌≡◌, ℕ, zero, suc, ◌+◌, ◌-◌, ◌<◌, ◌≤◌, List, [], ◌∷◌, ◌++◌, length, take, drop, Some, None, Option, sym, refl, ap, ◌∙◌, subst, append_assoc, arith}
+use Rattle.std.proofs.Common.{◌≡◌, ℕ, zero, suc, ◌+◌, ◌<◌, ◌≤◌, List, [], ◌∷◌, ◌++◌, length, take, drop, Some, None, Option, sym, refl, ap, ◌∙◌, subst, append_assoc, arith}
 use Rattle.std.proofs.lemmas.List.{append-nil, drop_at, drop-drop, length-append, length-take-le, take_at}
 use Rattle.ends.specs.declared.ledger.Ledger.{Ledger}
 use Rattle.protocol.specs.Outputs.{overlaid}
@@ -9,7 +9,7 @@ use Rattle.refusals.specs.declared.refusal.RoomFault.{RoomFault}
 use Rattle.session.specs.Queues.{first, waits}
 use Rattle.session.specs.declared.waiting.Waiting.{Waiting}
 use Rattle.spool.specs.Entries.{Entry}
-use Rattle.receiver.specs.Moments.{Counts, Fits, Moment, Paced, Talk, Told, Went, advanced, moment}
+use Rattle.receiver.specs.Moments.{Moment, Paced, Told, Went, advanced, moment}
 use Rattle.receiver.specs.Turns.{filed_by}
 use Rattle.receiver.specs.declared.seat.Seat.{Seat}
 use Rattle.receiver.proofs.Telling.{told_more, told_none, told_write, went_both, went_write}

@@ -1,7 +1,7 @@
 -- How the outcome of a turn is settled.
-use Rattle.std.proofs.Common.{◌≡◌, ℕ, zero, suc, ◌+◌, ◌%◌, ◌<◌, ◌≤◌, List, [], ◌∷◌, ◌++◌, map, length, take, replicate, Some, None, Option, sym, refl, ap, ◌∙◌, subst, arith}
+use Rattle.std.proofs.Common.{◌≡◌, ℕ, zero, suc, ◌%◌, ◌<◌, ◌≤◌, List, [], ◌∷◌, map, length, take, replicate, Some, None, Option, sym, refl, ap, ◌∙◌, subst, arith}
 use Rattle.std.proofs.lemmas.List.{append-nil}
-use Rattle.ends.specs.Ends.{EachFiled, SmtpEnd, all_filed, none-filed}
+use Rattle.ends.specs.Ends.{SmtpEnd, all_filed, none-filed}
 use Rattle.ends.specs.Filing.{entry}
 use Rattle.ends.specs.Ledgers.{Counted, counts_of}
 use Rattle.ends.specs.declared.ledger.Ledger.{Ledger}

@@ -1,16 +1,16 @@
 -- What each part of a feed does to every tally.
-use Rattle.std.proofs.Common.{◌≡◌, ℕ, ◌+◌, ◌<◌, ◌≤◌, List, [], ◌∷◌, ◌++◌, length, take, drop, Some, None, Option, sym, refl, ap, ◌∙◌, subst, append_assoc, arith}
+use Rattle.std.proofs.Common.{◌≡◌, ℕ, ◌+◌, List, [], ◌∷◌, ◌++◌, length, None, Option, sym, refl, ap, ◌∙◌, subst, append_assoc, arith}
 use Rattle.std.specs.List.{flat_map}
-use Rattle.std.proofs.lemmas.List.{append-nil, length-append}
-use Rattle.ends.specs.Ledgers.{Counted, count, counts_of}
+use Rattle.std.proofs.lemmas.List.{append-nil}
+use Rattle.ends.specs.Ledgers.{count, counts_of}
 use Rattle.ends.specs.declared.ledger.Ledger.{Ledger}
 use Rattle.judgement.specs.declared.phase.Kind.{Kind}
 use Rattle.protocol.specs.Replies.{octets_of as wired}
 use Rattle.protocol.specs.declared.reply.Reply.{Reply}
 use Rattle.refusals.specs.declared.refusal.RoomFault.{RoomFault}
 use Rattle.session.specs.Places.{After, Hears, Stands, TurnEnds, setting_of}
-use Rattle.session.specs.Queues.{first, waits}
-use Rattle.session.specs.Turns.{Outcome, Place, Setting, Turned}
+use Rattle.session.specs.Queues.{waits}
+use Rattle.session.specs.Turns.{Outcome, Place, Setting}
 use Rattle.session.specs.declared.session.Event.{Event}
 use Rattle.session.specs.declared.session.Event.TheVariants.{More}
 use Rattle.session.specs.declared.session.Session.{Session}
@@ -19,7 +19,7 @@ use Rattle.spool.specs.Entries.{Entry}
 use Rattle.receiver.specs.Ending.{Settled}
 use Rattle.receiver.specs.Moments.{Counts, Fits, Moment, Talk, Told, Went, advanced, moment, setting, wire}
 use Rattle.receiver.specs.Settling.{Settles}
-use Rattle.receiver.specs.Turns.{Chain, Finishes, Point, Turn, filed_by, octets_of, point, replies_of}
+use Rattle.receiver.specs.Turns.{Chain, Point, Turn, filed_by, octets_of, point, replies_of}
 use Rattle.receiver.specs.declared.seat.Seat.{Seat}
 use Rattle.receiver.proofs.Settlement.{settles_carry}
 

@@ -1,5 +1,5 @@
 -- The plain tally of one session, when it agrees with the receiver's records, and what some octets do to it.
-use Rattle.std.specs.Prelude.{◌≡◌, ℕ, ◌+◌, ◌<◌, ◌≤◌, List, [], ◌∷◌, ◌++◌, length, take, None, Option, ◌≢◌}
+use Rattle.std.specs.Prelude.{◌≡◌, ℕ, ◌+◌, ◌<◌, ◌≤◌, List, [], ◌++◌, length, take, None, Option, ◌≢◌}
 use Rattle.std.specs.List.{flat_map}
 use Rattle.ends.specs.Ledgers.{count, counts_of}
 use Rattle.ends.specs.declared.ledger.Ledger.{Ledger}

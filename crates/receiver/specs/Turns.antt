@@ -1,6 +1,5 @@
 -- One turn after another of a session, with the spool.
 use Rattle.std.specs.Prelude.{◌≡◌, ℕ, List, [], ◌∷◌, ◌++◌, Option}
-use Rattle.std.specs.List.{flat_map}
 use Rattle.ends.specs.Ledgers.{count}
 use Rattle.protocol.specs.declared.reply.Reply.{Reply}
 use Rattle.refusals.specs.declared.refusal.RoomFault.{RoomFault}

@@ -1,9 +1,13 @@
-use Rattle.std.proofs.Common.{◌≡◌, ℕ, ◌+◌, ◌-◌, ◌<◌, ◌≤◌, List, [], length, take, drop, sym, refl, ap, ◌∙◌, inl, inr, arith, rules}
-use Rattle.std.proofs.lemmas.List.{length-drop}
-use Rattle.receiver.specs.Moments.{moment}
+use Rattle.std.proofs.Common.{◌≡◌, ℕ, ◌-◌, ◌≤◌, List, [], length, take, drop, sym, ap, subst, ◌∙◌, inl, inr, arith}
+use Rattle.std.proofs.lemmas.List.{length-drop, take_all}
+use Rattle.std.proofs.lemmas.Bool.{true≢false}
+use Rattle.receiver.specs.Moments.{Told, moment}
 use Rattle.receiver.proofs.Conversing.{conversing_none, conversing_step, conversing_write, first_none}
 use Rattle.receiver.proofs.converse.converse.Goals as goal
 use Rattle.receiver.proofs.converse.converse.Goals.{else-loop-output-test, then-loop-output-test+in-None+then-taken-input, then-taken-input-via-then-taken-input, then-taken-input-via-else-taken-input+then-is_ended}
+
+rest_whole : (xs : List ℕ) (n : ℕ) → take (length xs - n) (drop n xs) ≡ drop n xs
+rest_whole xs n = take_all (length xs - n) (drop n xs) (omega (arith, length-drop n xs))
 
 pub loop-output-init : goal.loop-output-init
 loop-output-init g c = conversing_none g.S.Spool.held g.S.Spool.lot g.S.Spool.room _ _ _ _ _ c.requires.roomy c.requires.wide c.requires.idle
@@ -26,18 +30,27 @@ step-taken-requires g c = record {
   wide = c.loop-output.invariant.wide;
   idle = c.loop-output.invariant.idle;
   quiet = first_none _ c.in-None.ensures;
-  goes = λ e. ?;
-  some = ?;
+  goes = λ e. true≢false (sym (c.is_ended.ensures.1 e) ∙ c.if-is_ended.false);
+  some = omega (arith, ap length (rest_whole c.args.input.now c.loop-output.taken), length-drop c.loop-output.taken c.args.input.now, c.if-taken-input.false);
 }
 
 pub loop-output-smaller : goal.loop-output-smaller
-loop-output-smaller g c = omega (arith, c.step-taken.ensures.some, c.step-taken.ensures.within, length-drop c.loop-output.taken c.args.input.now)
+loop-output-smaller g c =
+    omega (arith, c.step-taken.ensures.some, c.step-taken.ensures.within, ap length (rest_whole c.args.input.now c.loop-output.taken), length-drop c.loop-output.taken c.args.input.now)
 
 pub loop-output-preserved : goal.loop-output-preserved
 loop-output-preserved g c =
     let l = c.loop-output in
     let t = c.step-taken in
-    conversing_step g.S.Spool.held g.S.Spool.lot g.S.Spool.room c.args.name.now (g.D.Directory.told c.args.directory.now) _ (moment l.seat l.ledger l.area l.sheet l.spool) (moment t.new.seat t.new.ledger t.new.area t.new.sheet t.new.spool) c.args.input.now c.args.output.now l.output l.taken l.written t.result l.invariant (omega (arith, l.invariant.some_written)) t.ensures.within (omega (arith, t.ensures.within, length-drop l.taken c.args.input.now)) t.ensures.size t.auto.area t.ensures.idle t.ensures.told
+    let input = c.args.input.now in
+    let name = c.args.name.now in
+    let find = g.D.Directory.told c.args.directory.now in
+    let m = moment l.seat l.ledger l.area l.sheet l.spool in
+    let m' = moment t.new.seat t.new.ledger t.new.area t.new.sheet t.new.spool in
+    let e : take (length input - l.taken) (drop l.taken input) ≡ drop l.taken input = rest_whole input l.taken in
+    let within : t.result ≤ length (drop l.taken input) = omega (arith, t.ensures.within, ap length e) in
+    let P : List ℕ → Type 0 = λ v. Told g.S.Spool.held g.S.Spool.lot g.S.Spool.room name find m m' (take t.result v) [] in
+    conversing_step g.S.Spool.held g.S.Spool.lot g.S.Spool.room name find _ m m' input c.args.output.now l.output l.taken l.written t.result l.invariant (omega (arith, l.invariant.some_written)) within (omega (arith, within, length-drop l.taken input)) t.ensures.size t.auto.area t.ensures.idle (subst P e t.ensures.told)
 
 pub returns : goal.returns
 returns g c =

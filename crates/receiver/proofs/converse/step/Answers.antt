@@ -1,4 +1,4 @@
-use Rattle.std.proofs.Common.{◌≡◌, ℕ, ◌-◌, List, [], take, sym, refl, ap, ◌∙◌, subst, arith}
+use Rattle.std.proofs.Common.{◌≡◌, ℕ, ◌-◌, List, take, refl, ap, ◌∙◌, subst, arith}
 use Rattle.session.specs.Places.{Hears, mailboxes, setting_of}
 use Rattle.session.specs.Turns.{answered, ends}
 use Rattle.session.specs.declared.session.Event.{Event}

@@ -1,4 +1,4 @@
-use Rattle.std.proofs.Common.{◌≡◌, ℕ, ◌-◌, List, length, take, Some, Option, sym, refl, ap, ◌∙◌, subst, arith}
+use Rattle.std.proofs.Common.{◌≡◌, ℕ, ◌-◌, take, Some, Option, sym, ap, ◌∙◌, subst, arith}
 use Rattle.std.specs.Option.{option_map}
 use Rattle.judgement.specs.declared.phase.Kind.{Kind}
 use Rattle.judgement.specs.declared.phase.Kind.TheVariants.{Smtp, Lmtp}
@@ -6,7 +6,7 @@ use Rattle.session.specs.Places.{mailboxes}
 use Rattle.session.specs.Turns.{ends}
 use Rattle.spool.proofs.Fronts.{front_is}
 use Rattle.receiver.specs.Ending.{Settled}
-use Rattle.receiver.proofs.Settlement.{settled_ended, settled_large}
+use Rattle.receiver.proofs.Settlement.{settled_ended}
 use Rattle.receiver.proofs.ending.settle.Goals as goal
 
 pub returns-in-Smtp : goal.returns-in-Smtp

@@ -1,4 +1,4 @@
-use Rattle.std.proofs.Common.{◌≡◌, ℕ, List, length, sym, refl, ap, ◌∙◌}
+use Rattle.std.proofs.Common.{sym, ap, ◌∙◌}
 use Rattle.judgement.specs.declared.phase.Kind.{Kind}
 use Rattle.protocol.specs.declared.reply.Reply.TheVariants.{TooLarge}
 use Rattle.session.specs.Places.{mailboxes}
