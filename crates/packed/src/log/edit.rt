@@ -3,7 +3,6 @@ ghost use Rattle.packed.specs.Meaning.{LawfulLog, floor_of, held_of, lot_of, roo
 ghost use Rattle.packed.specs.Packing.{lowered, total};
 ghost use Rattle.refusals.specs.Refusals.{notice, plain};
 ghost use Rattle.packed.specs.Logs.{free_room, empty_free};
-ghost use Rattle.std.proofs.Common.{rules, arith};
 
 use super::PackedLog;
 use crate::row::LogRow;
@@ -88,7 +87,7 @@ impl Spool for PackedLog {
 
     ghost within = { λ _. Unit {0} };
 
-    ghost high_floor = { first_of (Prim.search rules, Prim.grind (arith, Self.row.coded.inj)) };
+    ghost high_floor = { λ s. s.octets_low };
 
     ghost empty_has_room = { λ s h l m n k f. free_room s m n (empty_free s h l n f) };
 

@@ -3,7 +3,6 @@ ghost use Rattle.slots.specs.Stores.{LawfulSlots, entries, floor_of, held_of, lo
 ghost use Rattle.refusals.specs.Refusals.{notice, plain, told};
 ghost use Rattle.spool.specs.Rules.{tells};
 ghost use Rattle.slots.specs.Holdings.{empty_room};
-ghost use Rattle.std.proofs.Common.{rules, arith};
 
 use super::SlotStore;
 use crate::row::SlotRow;
@@ -82,7 +81,7 @@ impl Spool for SlotStore {
 
     ghost within = { λ _. Unit {0} };
 
-    ghost high_floor = { first_of (Prim.search rules, Prim.grind (arith, Self.row.coded.inj)) };
+    ghost high_floor = { λ s. s.high };
 
     ghost empty_has_room = { λ s h k m n _ l. empty_room s h k m n l };
 
