@@ -14,8 +14,16 @@ with open(os.path.join(HERE, "respell.tsv"), encoding="utf-8") as f:
     ROWS = dict(line.rstrip("\n").split("\t") for line in f)
 
 
+# The port script brings the list predicate by recursion in under the name of another word of the library: it gets its own.
+ALIAS = "AllByRecursion as All"
+
+
 def respelt(text):
-    return WORD.sub(lambda m: ROWS.get(m[0], m[0]), text)
+    rows = ROWS
+    if ALIAS in text:
+        rows = dict(ROWS, All="AllByRecursion")
+        text = text.replace(ALIAS, "AllByRecursion")
+    return WORD.sub(lambda m: rows.get(m[0], m[0]), text)
 
 
 for folder, dirs, names in os.walk("crates"):

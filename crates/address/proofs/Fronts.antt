@@ -1,6 +1,6 @@
 -- The local part and the domain at the front of octets.
 use Rattle.std.proofs.Common.{◌≡◌, ℕ, ◌<◌, ◌≤◌, Bool, true, false, cond, eqb, ◌⊎◌, List, [], ◌∷◌, ◌++◌, length, get_or, take, drop, Some, None, Option, sym, refl, ap, ◌∙◌, subst, inl, inr, arith, MatchOption}
-use Rattle.std.specs.List.{prefix_len, flat_map, AllByRecursion as All}
+use Rattle.std.specs.List.{prefix_len, flat_map, AllByRecursion}
 use Rattle.std.proofs.lemmas.List.{length-append, append-nil, take-append-drop, take_at, take_all, length-take-le, drop_more}
 use Rattle.std.proofs.ByRecursion.{All-weaker}
 use Rattle.std.proofs.lemmas.List.Sums.{prefix_len-le-length}
@@ -57,16 +57,16 @@ only_atoms xs o n h = record { holds = inr h; alone = go }
     go m (inr a) = a.0 ∙ sym h.0
 
 -- Where each piece between the dots passes, each octet passes or is a dot.
-with_first : (p : ℕ → Bool) (x : ℕ) (ws : List (List ℕ)) → All (AllIn p) (onto_first x ws) → (p x ≡ true) × All (AllIn p) ws
+with_first : (p : ℕ → Bool) (x : ℕ) (ws : List (List ℕ)) → AllByRecursion (AllIn p) (onto_first x ws) → (p x ≡ true) × AllByRecursion (AllIn p) ws
 with_first p x [] h = (h.0.0, tt)
 with_first p x (w ∷ ws) h = (h.0.0, (h.0.1, h.1))
 
-pieces_pass : (p : ℕ → Bool) (xs : List ℕ) → All (AllIn p) (pieces xs) → AllIn (or_dot p) xs
+pieces_pass : (p : ℕ → Bool) (xs : List ℕ) → AllByRecursion (AllIn p) (pieces xs) → AllIn (or_dot p) xs
 pieces_pass p [] h = tt
 pieces_pass p (x ∷ xs) h = go (pieces_pass p xs) (eqb x 46) refl h
   where
-    go : (All (AllIn p) (pieces xs) → AllIn (or_dot p) xs) → (b : Bool) → eqb x 46 ≡ b →
-        All (AllIn p) (cond b ([] ∷ pieces xs) (onto_first x (pieces xs))) → AllIn (or_dot p) (x ∷ xs)
+    go : (AllByRecursion (AllIn p) (pieces xs) → AllIn (or_dot p) xs) → (b : Bool) → eqb x 46 ≡ b →
+        AllByRecursion (AllIn p) (cond b ([] ∷ pieces xs) (onto_first x (pieces xs))) → AllIn (or_dot p) (x ∷ xs)
     go f true e h = (or_right (p x) (eqb x 46) e, f h.1)
     go f false e h = let k = with_first p x (pieces xs) h in (or_left (p x) (eqb x 46) k.0, f k.1)
 

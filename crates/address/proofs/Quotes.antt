@@ -1,6 +1,6 @@
 -- Reading on between quote marks.
 use Rattle.std.proofs.Common.{◌≡◌, ℕ, ◌+◌, ◌-◌, ◌<◌, ◌≤◌, true, false, List, [], ◌∷◌, ◌++◌, length, get_or, take, drop, sym, refl, ap, ◌∙◌, subst, inl, inr, add-zero, add_assoc, zero-add, arith}
-use Rattle.std.specs.List.{flat_map, AllByRecursion as All}
+use Rattle.std.specs.List.{flat_map, AllByRecursion}
 use Rattle.std.proofs.lemmas.List.{length-append, append_assoc, take-append-drop, take_at, length-take-le, drop_more, drop_all, get_or-drop, length-drop}
 use Rattle.address.specs.Classes.{qtext, printable}
 use Rattle.address.specs.Parts.{Quotable, bare, escaped, spelling, Allowed, QuotedAt, Only}
@@ -10,7 +10,7 @@ use Rattle.address.proofs.Runs.{passes_apart}
 -- Behind the opening quote mark: what may stand there and the closing one are m octets.
 record Body (ys : List ℕ) (m : ℕ) : Type 0 where
   inner : List Quotable
-  allowed : All Allowed inner
+  allowed : AllByRecursion Allowed inner
   rest : List ℕ
   spelt : ys ≡ flat_map spelling inner ++ 34 ∷ rest
   long : m ≡ length (flat_map spelling inner) + 1
@@ -55,7 +55,7 @@ by_bare x zs q = record {
   forth = λ m b. go m b.inner b.allowed b.rest b.spelt b.long;
 }
   where
-    go : (m : ℕ) (ps : List Quotable) → All Allowed ps → (rest : List ℕ) → x ∷ zs ≡ flat_map spelling ps ++ 34 ∷ rest → m ≡ length (flat_map spelling ps) + 1 → (j : ℕ) × (m ≡ 1 + j) × Body zs j
+    go : (m : ℕ) (ps : List Quotable) → AllByRecursion Allowed ps → (rest : List ℕ) → x ∷ zs ≡ flat_map spelling ps ++ 34 ∷ rest → m ≡ length (flat_map spelling ps) + 1 → (j : ℕ) × (m ≡ 1 + j) × Body zs j
     go m [] a r e l = absurd (passes_apart qtext x 34 q bare_34 (ap (λ v. get_or v 0 0) e))
     go m (bare y ∷ ps) a r e l =
         (length (flat_map spelling ps) + 1, omega (arith, l), record { inner = ps; allowed = a.1; rest = r; spelt = ap (drop 1) e; long = refl })
@@ -73,7 +73,7 @@ by_escape x zs q = record {
   forth = λ m b. go m b.inner b.allowed b.rest b.spelt b.long;
 }
   where
-    go : (m : ℕ) (ps : List Quotable) → All Allowed ps → (rest : List ℕ) → 92 ∷ x ∷ zs ≡ flat_map spelling ps ++ 34 ∷ rest → m ≡ length (flat_map spelling ps) + 1 → (j : ℕ) × (m ≡ 2 + j) × Body zs j
+    go : (m : ℕ) (ps : List Quotable) → AllByRecursion Allowed ps → (rest : List ℕ) → 92 ∷ x ∷ zs ≡ flat_map spelling ps ++ 34 ∷ rest → m ≡ length (flat_map spelling ps) + 1 → (j : ℕ) × (m ≡ 2 + j) × Body zs j
     go m [] a r e l = absurd (let z : 92 ≡ 34 = ap (λ v. get_or v 0 0) e in omega arith)
     go m (bare y ∷ ps) a r e l = absurd (passes_apart qtext y 92 a.0 bare_92 (sym (ap (λ v. get_or v 0 0) e)))
     go m (escaped y ∷ ps) a r e l =
@@ -83,7 +83,7 @@ by_escape x zs q = record {
 stuck : (ys : List ℕ) (m : ℕ) → qtext (get_or ys 0 0) ≡ false → (get_or ys 0 0 ≡ 34 → ⊥) → (get_or ys 0 0 ≡ 92 → 1 < length ys → printable (get_or ys 1 0) ≡ true → ⊥) → Body ys m → ⊥
 stuck ys m q n p b = go b.inner b.allowed b.spelt
   where
-    go : (ps : List Quotable) → All Allowed ps → ys ≡ flat_map spelling ps ++ 34 ∷ b.rest → ⊥
+    go : (ps : List Quotable) → AllByRecursion Allowed ps → ys ≡ flat_map spelling ps ++ 34 ∷ b.rest → ⊥
     go [] a e = n (ap (λ v. get_or v 0 0) e)
     go (bare y ∷ ps) a e = passes_apart qtext y (get_or ys 0 0) a.0 q (sym (ap (λ v. get_or v 0 0) e))
     go (escaped y ∷ ps) a e =
@@ -95,7 +95,7 @@ closed r = record { inner = []; allowed = tt; rest = r; spelt = refl; long = ref
 closed_only : (r : List ℕ) (m : ℕ) → Body (34 ∷ r) m → m ≡ 1
 closed_only r m b = go b.inner b.allowed b.spelt b.long
   where
-    go : (ps : List Quotable) → All Allowed ps → 34 ∷ r ≡ flat_map spelling ps ++ 34 ∷ b.rest → m ≡ length (flat_map spelling ps) + 1 → m ≡ 1
+    go : (ps : List Quotable) → AllByRecursion Allowed ps → 34 ∷ r ≡ flat_map spelling ps ++ 34 ∷ b.rest → m ≡ length (flat_map spelling ps) + 1 → m ≡ 1
     go [] a e l = l
     go (bare y ∷ ps) a e l = absurd (passes_apart qtext y 34 a.0 bare_34 (sym (ap (λ v. get_or v 0 0) e)))
     go (escaped y ∷ ps) a e l = absurd (let z : 34 ≡ 92 = ap (λ v. get_or v 0 0) e in omega arith)

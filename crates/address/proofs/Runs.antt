@@ -1,7 +1,7 @@
 -- The longest run at the front of a list, and runs of words with dots between them.
 use Rattle.std.proofs.Common.{◌≡◌, ℕ, ◌+◌, ◌-◌, ◌<◌, ◌≤◌, Bool, true, false, cond, eqb, List, [], ◌∷◌, ◌++◌, length, get_or, take, drop, sym, refl, ap, ◌∙◌, subst, inl, inr, add-zero, zero-add, one-add, arith}
 use lib.Seq.{take-append-add}
-use Rattle.std.specs.List.{between, prefix_len, AllByRecursion as All}
+use Rattle.std.specs.List.{between, prefix_len, AllByRecursion}
 use Rattle.std.proofs.ByRecursion.{All-weaker}
 use Rattle.std.proofs.lemmas.List.{length-drop, length-take-le, take-append-drop, append-nil, drop-drop, drop_all, drop_more}
 use Rattle.std.proofs.lemmas.List.Sums.{prefix_len-le-length}
@@ -88,7 +88,7 @@ last_word p d w r h z =
 
 -- The run from a place on, where its first word ends and what stands there. W says what a word is.
 abbrev pub WordsRun : (ℕ → Bool) → (List ℕ → Type 0) → List ℕ → Type 0
-WordsRun p W xs = All W (pieces (run (or_dot p) xs))
+WordsRun p W xs = AllByRecursion W (pieces (run (or_dot p) xs))
 
 module _ (p : ℕ → Bool) (d : p 46 ≡ false) (W : List ℕ → Type 0) (s : List ℕ) (start end : ℕ) (ends : end ≡ start + prefix_len p (drop start s)) where
   pub word_within : start ≤ length s → end ≤ length s
@@ -154,8 +154,8 @@ module _ (p : ℕ → Bool) (d : p 46 ≡ false) (W : List ℕ → Type 0) (s : 
   word_first h =
       elim (cases_lt end (length s)) [
         | inl l ↦ elim (cases_eq (get_or s end 0) 46) [
-          | inl e ↦ (subst (All W) (word_next l e).1 h).0
-          | inr k ↦ (subst (All W) (word_last (λ _. k)).1 h).0
+          | inl e ↦ (subst (AllByRecursion W) (word_next l e).1 h).0
+          | inr k ↦ (subst (AllByRecursion W) (word_last (λ _. k)).1 h).0
         ]
-        | inr g ↦ (subst (All W) (word_last (λ l. absurd (omega arith))).1 h).0
+        | inr g ↦ (subst (AllByRecursion W) (word_last (λ l. absurd (omega arith))).1 h).0
       ]

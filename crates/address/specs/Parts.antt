@@ -1,6 +1,6 @@
 -- Local parts and domains.
 use Rattle.std.specs.Prelude.{◌≡◌, ℕ, ◌≤◌, true, ◌⊎◌, List, [], ◌∷◌, ◌++◌, length, take}
-use Rattle.std.specs.List.{prefix_len, flat_map, AllByRecursion as All}
+use Rattle.std.specs.List.{prefix_len, flat_map, AllByRecursion}
 use Rattle.address.specs.Classes.{atext, qtext, printable}
 use Rattle.address.specs.Words.{Dotted, label_octet, or_dot}
 use Rattle.address.specs.declared.words.Word.TheVariants.{Atom, Label}
@@ -21,7 +21,7 @@ Allowed (escaped x) = printable x ≡ true
 -- A quoted local part, with its quote marks. Nothing need stand between them.
 pub record Quoted (xs : List ℕ) : Type 0 where
   pub inner : List Quotable
-  pub allowed : All Allowed inner
+  pub allowed : AllByRecursion Allowed inner
   pub spelt : xs ≡ 34 ∷ (flat_map spelling inner ++ 34 ∷ [])
 
 -- A local part: quoted, or atoms with a dot between each and the next; at most 64 octets, quote marks counted.

@@ -1,13 +1,13 @@
 -- Words with dots between them: atoms in a local part, labels in a domain.
 use Rattle.std.specs.Prelude.{◌≡◌, ℕ, ◌-◌, ◌≤◌, Bool, true, cond, ◌||◌, List, [], ◌∷◌, length, take, ◌==◌, slice_index}
-use Rattle.std.specs.List.{prefix_len, AllByRecursion as All}
+use Rattle.std.specs.List.{prefix_len, AllByRecursion}
 use Rattle.address.specs.Classes.{atext, let_dig}
 use Rattle.address.specs.declared.words.Word.{Word}
 use Rattle.address.specs.declared.words.Word.TheVariants.{Atom, Label}
 
 -- Every octet passes a test.
 abbrev pub AllIn : (ℕ → Bool) → List ℕ → Type 0
-AllIn p xs = All (λ x. p x ≡ true) xs
+AllIn p xs = AllByRecursion (λ x. p x ≡ true) xs
 
 -- The longest run of octets that pass a test, at the front.
 abbrev pub run : (ℕ → Bool) → List ℕ → List ℕ
@@ -48,7 +48,7 @@ pieces (x ∷ xs) = cond (x == 46) ([] ∷ pieces xs) (onto_first x (pieces xs))
 
 -- Words with a dot between each and the next.
 abbrev pub Dotted : Word → List ℕ → Type 0
-Dotted word xs = All (IsWord word) (pieces xs)
+Dotted word xs = AllByRecursion (IsWord word) (pieces xs)
 
 -- An octet of words, or a dot.
 abbrev pub or_dot : (ℕ → Bool) → ℕ → Bool

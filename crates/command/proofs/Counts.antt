@@ -1,6 +1,6 @@
 -- Numbers in digits, and the chunk that they announce.
 use Rattle.std.proofs.Common.{◌≡◌, ℕ, ◌+◌, ◌-◌, ◌*◌, ◌^◌, ◌<◌, ◌≤◌, min, Bool, true, false, List, [], ◌∷◌, ◌++◌, map, length, get_or, take, drop, codes, sym, refl, ap, ◌∙◌, subst, arith, rules}
-use Rattle.std.specs.Char.{is_ascii_digit, digit_value as digitValue, to_ascii_lowercase}
+use Rattle.std.specs.Char.{is_ascii_digit, digit_value, to_ascii_lowercase}
 use Rattle.std.specs.List.{prefix_len}
 use Rattle.std.proofs.lemmas.List.{append-nil, length-map, length-take-le, take_all, take-append-drop, take_at, drop_at}
 use Rattle.std.proofs.lemmas.Str.Parse.{IsDigitsTest, numerals_by_value, digits_value_short}
@@ -13,8 +13,8 @@ use Rattle.command.specs.Chunks.{IsChunk, Tail}
 use Rattle.command.specs.Numerals.{IsNumeral, decimal_value, kept}
 use Rattle.command.specs.declared.chunk.Chunk.{Chunk}
 
-pub digit_value : (x : ℕ) → is_ascii_digit x ≡ true → digitValue x ≡ x - 48
-digit_value x h = grind (arith, nat_tests)
+pub digit_value_lem : (x : ℕ) → is_ascii_digit x ≡ true → digit_value x ≡ x - 48
+digit_value_lem x h = grind (arith, nat_tests)
 
 pub kept_more : (v d m a : ℕ) → m ≡ min (kept v * 10) (2 ^ 64 - 1) → a ≡ min (m + d) (2 ^ 64 - 1) → a ≡ kept (v * 10 + d)
 kept_more v d m a h k = omega arith

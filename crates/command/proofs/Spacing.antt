@@ -1,6 +1,6 @@
 -- Octets cut at spaces.
 use Rattle.std.proofs.Common.{◌≡◌, ℕ, ◌+◌, ◌<◌, ◌≤◌, eqb, List, [], ◌∷◌, ◌++◌, length, get_or, take, drop, sym, refl, ap, ◌∙◌, subst, inl, inr, arith}
-use Rattle.std.specs.List.{flat_map, prefix_len, AllByRecursion as All}
+use Rattle.std.specs.List.{flat_map, prefix_len, AllByRecursion}
 use Rattle.std.proofs.lemmas.List.{append_assoc, length-append, take_at, drop_at, drop_more}
 use Rattle.std.proofs.lemmas.Bool.{cases_eq, ne_eqb, not_from_false}
 use Rattle.address.specs.Words.{run}
@@ -14,7 +14,7 @@ record Split (xs : List ℕ) : Type 0 where
   pub params : List (List ℕ)
   pub spelt : xs ≡ word ++ flat_map spaced params
   pub spaceless : Spaceless word
-  pub apart : All Spaceless params
+  pub apart : AllByRecursion Spaceless params
 
 split : (xs : List ℕ) → Split xs
 split [] = record { word = []; params = []; spelt = refl; spaceless = tt; apart = tt }
@@ -47,7 +47,7 @@ run_word w ps h =
     ap (λ k. take k (w ++ r)) (leading_is not_space w r h (stops ps)) ∙ take_at w r (length w) refl
 
 -- Octets are parameters in one way only.
-pub params_same : (ps qs : List (List ℕ)) → All Spaceless ps → All Spaceless qs → flat_map spaced ps ≡ flat_map spaced qs → ps ≡ qs
+pub params_same : (ps qs : List (List ℕ)) → AllByRecursion Spaceless ps → AllByRecursion Spaceless qs → flat_map spaced ps ≡ flat_map spaced qs → ps ≡ qs
 params_same [] [] h k e = refl
 params_same [] (q ∷ qs) h k e = absurd (omega (arith, ap length e))
 params_same (p ∷ ps) [] h k e = absurd (omega (arith, ap length e))

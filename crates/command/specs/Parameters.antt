@@ -1,6 +1,6 @@
 -- Parameters behind a path.
 use Rattle.std.specs.Prelude.{◌≡◌, ℕ, ◌⊎◌, List, [], ◌∷◌, ◌++◌, drop, Some, None, codes, Option, ◌≢◌}
-use Rattle.std.specs.List.{flat_map, AllByRecursion as All}
+use Rattle.std.specs.List.{flat_map, AllByRecursion}
 use Rattle.address.specs.Words.{AllIn}
 use Rattle.command.specs.Faults.{Verdict, bad_argument, unknown_parameter}
 use Rattle.command.specs.Lines.{Begins, not_space}
@@ -15,7 +15,7 @@ Spaceless p = AllIn not_space p
 
 pub record Parameters (xs : List ℕ) (ps : List (List ℕ)) : Type 0 where
   pub spelt : xs ≡ flat_map spaced ps
-  pub apart : All Spaceless ps
+  pub apart : AllByRecursion Spaceless ps
 
 -- What a command knows of parameters: which are its own, by their keyword, and how these are formed.
 pub record Knows : Type 1 where
@@ -26,7 +26,7 @@ pub record Knows : Type 1 where
 pub record Right (k : Knows) (before : List (List ℕ)) (p : List ℕ) : Type 0 where
   pub own : k.Own p
   pub formed : k.Formed p
-  pub once : All (λ q. k.Own q → ⊥) before
+  pub once : AllByRecursion (λ q. k.Own q → ⊥) before
 
 -- A wrong parameter that is empty or the command's own is a bad argument; any other is unknown.
 abbrev pub Wrong : Knows → List (List ℕ) → List ℕ → Verdict → Type 0
@@ -85,7 +85,7 @@ pub record SizeIn (ps : List (List ℕ)) (size : ℕ) : Type 0 where
   pub keeps : size ≡ kept number
 
 abbrev pub Declares : List (List ℕ) → Option ℕ → Type 0
-Declares ps None = All (λ p. Begins (codes "SIZE=") p → ⊥) ps
+Declares ps None = AllByRecursion (λ p. Begins (codes "SIZE=") p → ⊥) ps
 Declares ps (Some size) = SizeIn ps size
 
 -- Right parameters of MAIL, with the size that they declare.

@@ -1,6 +1,6 @@
 -- Directories that are a text with rows: each row stands for octets of the text and for a mailbox.
 use Rattle.std.specs.Prelude.{◌≡◌, ℕ, ◌+◌, ◌-◌, ◌<◌, ◌≤◌, Bool, cond, not, ◌&&◌, ◌⊎◌, List, [], ◌∷◌, ◌++◌, length, take, drop, Some, None, Option, ◌==◌}
-use Rattle.std.specs.List.{suffix_len, AllByRecursion as All}
+use Rattle.std.specs.List.{suffix_len, AllByRecursion}
 use Rattle.refusals.specs.Refusals.{Notice, plain}
 use Rattle.address.specs.Comparison.{same_domain, same_local}
 use Rattle.address.specs.Parts.{IsLocal, IsDomain}
@@ -47,10 +47,10 @@ pub record Limits (text : List ℕ) (rows : List DirectoryRow) : Type 0 where
   pub few : length rows ≤ 64
 
 abbrev pub GoodRows : RowKind → List ℕ → List DirectoryRow → Type 0
-GoodRows kind text rows = All (GoodRow kind text) rows
+GoodRows kind text rows = AllByRecursion (GoodRow kind text) rows
 
 abbrev pub GoodMailboxes : List DirectoryRow → Type 0
-GoodMailboxes rows = All (λ row. row.mailbox < 64) rows
+GoodMailboxes rows = AllByRecursion (λ row. row.mailbox < 64) rows
 
 pub record Lawful (kind : RowKind) (text : List ℕ) (rows : List DirectoryRow) : Type 0 where
   pub limits : Limits text rows

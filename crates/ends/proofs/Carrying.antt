@@ -1,7 +1,7 @@
 -- The relations depend on the filed counts of the mailboxes below 64 alone: they carry over from one reckoning of the counts
 -- to another that agrees with it there.
 use Rattle.std.proofs.Common.{◌≡◌, ℕ, ◌<◌, ◌≤◌, List, [], ◌∷◌, ◌++◌, map, Option, subst, arith}
-use Rattle.std.specs.List.{AllByRecursion as All}
+use Rattle.std.specs.List.{AllByRecursion}
 use Rattle.refusals.specs.declared.refusal.RoomFault.{RoomFault}
 use Rattle.spool.specs.Entries.{Entry}
 use Rattle.protocol.specs.declared.reply.Reply.{Reply}
@@ -14,15 +14,15 @@ use Rattle.ends.specs.Filing.{entry, Answered, answered-filed, answered_turned, 
 abbrev pub There : Entry → Type 0
 There e = e.mailbox < 64
 
-pub entries_there : (p rs : List ℕ) → All There (map (entry p) rs)
+pub entries_there : (p rs : List ℕ) → AllByRecursion There (map (entry p) rs)
 entries_there p [] = tt
 entries_there p (r ∷ rs) = (omega arith, entries_there p rs)
 
-front_there : (es : List Entry) (e : Entry) (fs : List Entry) → All There (es ++ e ∷ fs) → All There es
+front_there : (es : List Entry) (e : Entry) (fs : List Entry) → AllByRecursion There (es ++ e ∷ fs) → AllByRecursion There es
 front_there [] e fs h = tt
 front_there (x ∷ es) e fs h = (h.0, front_there es e fs h.1)
 
-next_there : (es : List Entry) (e : Entry) (fs : List Entry) → All There (es ++ e ∷ fs) → There e
+next_there : (es : List Entry) (e : Entry) (fs : List Entry) → AllByRecursion There (es ++ e ∷ fs) → There e
 next_there [] e fs h = h.0
 next_there (x ∷ es) e fs h = next_there es e fs h.1
 
@@ -32,14 +32,14 @@ module _ {S : Type 0} (held : S → List Entry) (lot : S → Option (List Entry)
   answered-carries s s' e b t (answered_turned f q n a) = answered_turned f q (subst (λ (x : ℕ). x ≤ most) (same e.mailbox t) n) a
   answered-carries s s' e b t (answered-ledger q n a) = answered-ledger q (subst (λ (x : ℕ). most < x) (same e.mailbox t) n) a
 
-  pub each-carries : (s s' : S) (es : List Entry) (bs : List Reply) → All There es → FiledEach held lot room c s es bs s' → FiledEach held lot room d s es bs s'
+  pub each-carries : (s s' : S) (es : List Entry) (bs : List Reply) → AllByRecursion There es → FiledEach held lot room c s es bs s' → FiledEach held lot room d s es bs s'
   each-carries s s' [] [] t h = h
   each-carries s s' [] (b ∷ bs) t h = h
   each-carries s s' (e ∷ es) [] t h = h
   each-carries s s' (e ∷ es) (b ∷ bs) t h =
       (h.0, (answered-carries s h.0 e b t.0 h.1.0, each-carries h.0 s' es bs t.1 h.1.1))
 
-  pub staged-carries : (s s' : S) (es : List Entry) → All There es → StagedAll held lot room c s es s' → StagedAll held lot room d s es s'
+  pub staged-carries : (s s' : S) (es : List Entry) → AllByRecursion There es → StagedAll held lot room c s es s' → StagedAll held lot room d s es s'
   staged-carries s s' [] t h = h
   staged-carries s s' (e ∷ es) t h =
       (subst (λ (x : ℕ). x ≤ most) (same e.mailbox t.0) h.0, (h.1.0, (h.1.1.0, staged-carries h.1.0 s' es t.1 h.1.1.1)))
@@ -48,9 +48,9 @@ module _ {S : Type 0} (held : S → List Entry) (lot : S → Option (List Entry)
   why-carries s e (Room f) t h = (subst (λ (x : ℕ). x ≤ most) (same e.mailbox t) h.0, h.1)
   why-carries s e Ledger t h = subst (λ (x : ℕ). most < x) (same e.mailbox t) h
 
-  pub fault-carries : (s s' : S) (es : List Entry) (f : EndFault) → All There es → FirstFault held lot room c s s' es f → FirstFault held lot room d s s' es f
+  pub fault-carries : (s s' : S) (es : List Entry) (f : EndFault) → AllByRecursion There es → FirstFault held lot room c s s' es f → FirstFault held lot room d s s' es f
   fault-carries s s' es f t h =
-      let u : All There (h.front ++ h.next ∷ h.rest) = subst (All There) h.cut t in
+      let u : AllByRecursion There (h.front ++ h.next ∷ h.rest) = subst (AllByRecursion There) h.cut t in
       record {
         front = h.front;
         next = h.next;
@@ -60,7 +60,7 @@ module _ {S : Type 0} (held : S → List Entry) (lot : S → Option (List Entry)
         why = why-carries s' h.next f (next_there h.front h.next h.rest u) h.why;
       }
 
-  pub together_carries : (s s' : S) (es : List Entry) → All There es → Together held lot room c s s' es → Together held lot room d s s' es
+  pub together_carries : (s s' : S) (es : List Entry) → AllByRecursion There es → Together held lot room c s s' es → Together held lot room d s s' es
   together_carries s s' es t h = record {
     open_at = h.open_at;
     full_at = h.full_at;
@@ -69,7 +69,7 @@ module _ {S : Type 0} (held : S → List Entry) (lot : S → Option (List Entry)
     commits = h.commits;
   }
 
-  pub spoilt_carries : (s s' : S) (es : List Entry) (f : EndFault) → All There es → Spoilt held lot room c s s' es f → Spoilt held lot room d s s' es f
+  pub spoilt_carries : (s s' : S) (es : List Entry) (f : EndFault) → AllByRecursion There es → Spoilt held lot room c s s' es f → Spoilt held lot room d s s' es f
   spoilt_carries s s' es f t h = record {
     open_at = h.open_at;
     full_at = h.full_at;

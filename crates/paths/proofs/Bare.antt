@@ -1,7 +1,7 @@
 -- "<>" and "<Postmaster>" are no paths.
 use Rattle.std.proofs.Common.{◌≡◌, ℕ, ◌+◌, ◌-◌, ◌≤◌, min, true, false, eqb, List, [], ◌∷◌, ◌++◌, map, length, get_or, take, drop, codes, sym, refl, ap, ◌∙◌, subst, inl, inr, arith}
 use lib.Seq.{take-nil}
-use Rattle.std.specs.List.{between, prefix_len, AllByRecursion as All}
+use Rattle.std.specs.List.{between, prefix_len, AllByRecursion}
 use Rattle.std.specs.Char.{to_ascii_lowercase}
 use Rattle.std.proofs.ByRecursion.{All-weaker}
 use Rattle.std.proofs.lemmas.List.{append_assoc, length-append, length-map, drop_at, take_at, take_all, drop_all, length-drop}
@@ -49,14 +49,14 @@ letter : (x y : ℕ) → to_ascii_lowercase x ≡ y → 97 ≤ y → y ≤ 122 �
 unfolding let_dig
 letter x y e l h = grind (arith, nat_tests)
 
-letters : (xs ys : List ℕ) → map to_ascii_lowercase xs ≡ ys → All (λ y. (97 ≤ y) × (y ≤ 122)) ys → AllIn atext xs
+letters : (xs ys : List ℕ) → map to_ascii_lowercase xs ≡ ys → AllByRecursion (λ y. (97 ≤ y) × (y ≤ 122)) ys → AllIn atext xs
 unfolding atext
 letters [] ys e h = tt
 letters (x ∷ xs) [] e h = absurd (omega (arith, ap length e))
 letters (x ∷ xs) (y ∷ ys) e h =
     (or_left (let_dig x) _ (letter x y (ap (λ v. get_or v 0 0) e) h.0.0 h.0.1), letters xs ys (ap (drop 1) e) h.1)
 
-small : All (λ y. (97 ≤ y) × (y ≤ 122)) (codes "postmaster")
+small : AllByRecursion (λ y. (97 ≤ y) × (y ≤ 122)) (codes "postmaster")
 small = search arith
 
 pub postmaster-octets : (xs : List ℕ) → IsPostmaster xs → AllIn atext xs
@@ -81,7 +81,7 @@ no_postmaster xs p z q =
     let dots = All-weaker (λ x. atext x ≡ true) (λ x. or_dot atext x ≡ true) (λ x k. or_left (atext x) (eqb x 46) k) w a in
     let n : prefix_len (or_dot atext) ys ≡ length w = leading_is (or_dot atext) w (62 ∷ z.rest) dots (stops_at (or_dot atext) 62 z.rest atom_62) in
     let atom : IsAtom w = record { some = omega (arith, t); octets = a } in
-    let d : Dotted Atom w = subst (All IsAtom) (sym (pieces_word atext atom_46 w a)) (atom, tt) in
+    let d : Dotted Atom w = subst (AllByRecursion IsAtom) (sym (pieces_word atext atom_46 w a)) (atom, tt) in
     let d' : Dotted Atom (take (length w) ys) = subst (Dotted Atom) (sym (take_at w (62 ∷ z.rest) (length w) refl)) d in
     let only = only_atoms ys (λ _. unquoted w (62 ∷ z.rest) a t) (length w) (sym n, d') in
     let f : 64 ∷ h.after ≡ 62 ∷ z.rest =

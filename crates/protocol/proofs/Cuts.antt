@@ -1,6 +1,6 @@
 -- Octets are cut into lines in one way.
 use Rattle.std.proofs.Common.{◌≡◌, ℕ, Bool, true, false, eqb, List, [], ◌∷◌, ◌++◌, sym, refl, ap, ◌∙◌, subst, append_assoc}
-use Rattle.std.specs.List.{flat_map, AllByRecursion as All}
+use Rattle.std.specs.List.{flat_map, AllByRecursion}
 use Rattle.std.proofs.ByRecursion.{All-push}
 use Rattle.std.proofs.lemmas.List.{append-nil, flat_map_more}
 use Rattle.std.proofs.lemmas.Bool.{eqb-true, eqb-false}
@@ -9,7 +9,7 @@ use Rattle.protocol.specs.Lines.{Unbroken, ended, Lines}
 use Rattle.protocol.proofs.Breaks.{cr_last, unbroken_nil, unbroken_front, unbroken_push, first_break, line_then}
 
 -- Lines at the front of octets that are cut into lines are the first of these.
-pub lines_front : (ls ms : List (List ℕ)) (more rest : List ℕ) → All Unbroken ls → All Unbroken ms → Unbroken rest → flat_map ended ls ++ more ≡ flat_map ended ms ++ rest → (cs : List (List ℕ)) × ((ms ≡ ls ++ cs) × (more ≡ flat_map ended cs ++ rest))
+pub lines_front : (ls ms : List (List ℕ)) (more rest : List ℕ) → AllByRecursion Unbroken ls → AllByRecursion Unbroken ms → Unbroken rest → flat_map ended ls ++ more ≡ flat_map ended ms ++ rest → (cs : List (List ℕ)) × ((ms ≡ ls ++ cs) × (more ≡ flat_map ended cs ++ rest))
 lines_front [] ms more rest a b u e = (ms, (refl, e))
 lines_front (l ∷ ls) [] more rest a b u e = absurd (u l (flat_map ended ls ++ more) (sym e ∙ line_then l (flat_map ended ls) more))
 lines_front (l ∷ ls) (m ∷ ms) more rest a b u e =

@@ -1,6 +1,6 @@
 -- The laws of messages, from the one cut into lines.
 use Rattle.std.proofs.Common.{◌≡◌, ℕ, ◌+◌, Bool, true, false, eqb, ◌⊎◌, List, [], ◌∷◌, ◌++◌, length, codes, sym, refl, ap, ◌∙◌, subst, inl, inr, append_assoc, arith}
-use Rattle.std.specs.List.{flat_map, AllByRecursion as All}
+use Rattle.std.specs.List.{flat_map, AllByRecursion}
 use Rattle.std.proofs.ByRecursion.{All-push}
 use Rattle.std.proofs.lemmas.List.{append-nil, length-append, same_from_push}
 use Rattle.std.proofs.lemmas.Bool.{eqb-true, eqb-false}
@@ -10,7 +10,7 @@ use Rattle.protocol.proofs.Breaks.{unbroken_nil, unbroken_push}
 use Rattle.protocol.proofs.Cuts.{cuts, lines_front}
 
 -- The end line is the first that is just a dot.
-first-dot : (ls ms cs : List (List ℕ)) → All Body ls → All Body ms → ms ++ (dot ∷ []) ≡ ls ++ (dot ∷ cs) → (cs ≡ []) × (ls ≡ ms)
+first-dot : (ls ms cs : List (List ℕ)) → AllByRecursion Body ls → AllByRecursion Body ms → ms ++ (dot ∷ []) ≡ ls ++ (dot ∷ cs) → (cs ≡ []) × (ls ≡ ms)
 first-dot [] [] cs a b e = (cc, refl)
 first-dot [] (m ∷ ms) cs a b e = absurd (b.0 (cc))
 first-dot (l ∷ ls) [] cs a b e = let p : dot ≡ l = cc in absurd (a.0 (sym p))
@@ -21,7 +21,7 @@ first-dot (l ∷ ls) (m ∷ ms) cs a b e =
     let q : ls ≡ ms = r.1 in
     (r.0, cc)
 
-no_dot : (ls ms cs : List (List ℕ)) → All Body ms → ms ≡ ls ++ (dot ∷ cs) → ⊥
+no_dot : (ls ms cs : List (List ℕ)) → AllByRecursion Body ms → ms ≡ ls ++ (dot ∷ cs) → ⊥
 no_dot [] [] cs b e = let z : ◌≡◌ {A = ℕ} 0 1 = cc in omega arith
 no_dot [] (m ∷ ms) cs b e = b.0 (cc)
 no_dot (l ∷ ls) [] cs b e = let z : ◌≡◌ {A = ℕ} 0 1 = cc in omega arith
@@ -58,7 +58,7 @@ dotted (x ∷ []) = go (eqb x 46) refl
 dotted (x ∷ y ∷ l) = inr (λ e. let n : ◌≡◌ {A = ℕ} (length (x ∷ y ∷ l)) 1 = ap length e in omega arith)
 
 abbrev Split : List (List ℕ) → Type 0
-Split ls = All Body ls ⊎ ((front : List (List ℕ)) × ((back : List (List ℕ)) × ((ls ≡ front ++ (dot ∷ back)) × All Body front)))
+Split ls = AllByRecursion Body ls ⊎ ((front : List (List ℕ)) × ((back : List (List ℕ)) × ((ls ≡ front ++ (dot ∷ back)) × AllByRecursion Body front)))
 
 split : (ls : List (List ℕ)) → Split ls
 split [] = inl tt
@@ -76,7 +76,7 @@ joined_append : (ls ms : List (List ℕ)) → flat_map ended (ls ++ ms) ≡ flat
 joined_append [] ms = refl
 joined_append (l ∷ ls) ms = ap (λ t. ended l ++ t) (joined_append ls ms) ∙ sym (append_assoc (ended l) (flat_map ended ls) (flat_map ended ms))
 
-all_front : (P : List ℕ → Type 0) (ls ms : List (List ℕ)) → All P (ls ++ ms) → All P ls
+all_front : (P : List ℕ → Type 0) (ls ms : List (List ℕ)) → AllByRecursion P (ls ++ ms) → AllByRecursion P ls
 all_front P [] ms a = tt
 all_front P (l ∷ ls) ms a = (a.0, all_front P ls ms a.1)
 
@@ -96,7 +96,7 @@ either a =
           let back = g.1.0 in
           let head = front ++ (dot ∷ []) in
           let is : ls ≡ head ++ back = g.1.1.0 ∙ sym (append_assoc front (dot ∷ []) back) in
-          let P : List (List ℕ) → Type 0 = λ t. All Unbroken t in
+          let P : List (List ℕ) → Type 0 = λ t. AllByRecursion Unbroken t in
           inr (
             flat_map ended head,
             (
@@ -164,7 +164,7 @@ pub laws : MessageLaws
 laws = record { one = one; apart = apart; begins = begins; within = within; either = either }
 
 -- No CR, so no CR LF.
-unbroken_clear : (xs : List ℕ) → All (λ x. x ≡ 13 → ⊥) xs → Unbroken xs
+unbroken_clear : (xs : List ℕ) → AllByRecursion (λ x. x ≡ 13 → ⊥) xs → Unbroken xs
 unbroken_clear [] all a b e = unbroken_nil a b e
 unbroken_clear (x ∷ xs) all [] b e = all.0 (cc)
 unbroken_clear (x ∷ xs) all (y ∷ a) b e = let t : xs ≡ a ++ (13 ∷ 10 ∷ b) = cc in unbroken_clear xs all.1 a b t

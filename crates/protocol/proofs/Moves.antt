@@ -1,6 +1,6 @@
 -- How octets move the line that a data part is in, and what payload they bring.
 use Rattle.std.proofs.Common.{◌≡◌, ℕ, Bool, true, false, cond, eqb, ◌⊎◌, List, [], ◌∷◌, ◌++◌, length, sym, refl, ap, ◌∙◌, subst, inl, inr, append_assoc, arith}
-use Rattle.std.specs.List.{flat_map, AllByRecursion as All}
+use Rattle.std.specs.List.{flat_map, AllByRecursion}
 use Rattle.std.proofs.ByRecursion.{All-push}
 use Rattle.std.proofs.lemmas.List.{append-nil, flat_map_more, same_from_push}
 use Rattle.std.proofs.lemmas.Bool.{eqb-true, eqb-false, ne_eqb}
@@ -16,13 +16,13 @@ pub record Moved (heard octets : List ℕ) (p p' : LinePlace) (texts : List (Lis
   pub texts' : List (List ℕ)
   pub rest' : List ℕ
   pub cut : Lines (heard ++ octets) texts' rest'
-  pub body : All Body texts'
+  pub body : AllByRecursion Body texts'
   pub place : At p' rest'
   pub grows : known p texts rest ++ xs ≡ known p' texts' rest'
 
 -- From one place the octets lead to another, and bring the payload xs.
 pub record Moves (p : LinePlace) (octets : List ℕ) (p' : LinePlace) (xs : List ℕ) : Type 0 where
-  pub from : (heard : List ℕ) (texts : List (List ℕ)) (rest : List ℕ) → Lines heard texts rest → All Body texts → At p rest → Moved heard octets p p' texts rest xs
+  pub from : (heard : List ℕ) (texts : List (List ℕ)) (rest : List ℕ) → Lines heard texts rest → AllByRecursion Body texts → At p rest → Moved heard octets p p' texts rest xs
 
 pub moves_none : (p : LinePlace) → Moves p [] p []
 moves_none p = record {
@@ -64,7 +64,7 @@ certain-inside true rest = refl
 certain-inside false rest = refl
 
 -- The line goes on, and is not the end line.
-on : (p : LinePlace) (b : ℕ) (xs : List ℕ) (heard : List ℕ) (texts : List (List ℕ)) (rest : List ℕ) → Lines heard texts rest → All Body texts → ((t : List ℕ) → rest ≡ t ++ (13 ∷ []) → b ≡ 10 → ⊥) → (rest ++ (b ∷ []) ≡ 46 ∷ [] → ⊥) → (rest ++ (b ∷ []) ≡ 46 ∷ 13 ∷ [] → ⊥) → certain p rest ++ xs ≡ undotted (rest ++ (b ∷ [])) → Moved heard (b ∷ []) p (inside b) texts rest xs
+on : (p : LinePlace) (b : ℕ) (xs : List ℕ) (heard : List ℕ) (texts : List (List ℕ)) (rest : List ℕ) → Lines heard texts rest → AllByRecursion Body texts → ((t : List ℕ) → rest ≡ t ++ (13 ∷ []) → b ≡ 10 → ⊥) → (rest ++ (b ∷ []) ≡ 46 ∷ [] → ⊥) → (rest ++ (b ∷ []) ≡ 46 ∷ 13 ∷ [] → ⊥) → certain p rest ++ xs ≡ undotted (rest ++ (b ∷ [])) → Moved heard (b ∷ []) p (inside b) texts rest xs
 on p b xs heard texts rest c all u m n k = record {
   texts' = texts;
   rest' = rest ++ (b ∷ []);
@@ -95,7 +95,7 @@ cr_on b differs = record {
 }
 
 -- From a place at which the line is known.
-moves_at : (p p' : LinePlace) (octets known-rest xs : List ℕ) → ((rest : List ℕ) → At p rest → rest ≡ known-rest) → ((heard : List ℕ) (texts : List (List ℕ)) → Lines heard texts known-rest → All Body texts → Moved heard octets p p' texts known-rest xs) → Moves p octets p' xs
+moves_at : (p p' : LinePlace) (octets known-rest xs : List ℕ) → ((rest : List ℕ) → At p rest → rest ≡ known-rest) → ((heard : List ℕ) (texts : List (List ℕ)) → Lines heard texts known-rest → AllByRecursion Body texts → Moved heard octets p p' texts known-rest xs) → Moves p octets p' xs
 moves_at p p' octets is xs at f = record {
   from = λ heard texts rest c all a.
       let P : List ℕ → Type 0 = λ r. Lines heard texts r → Moved heard octets p p' texts r xs in
@@ -175,7 +175,7 @@ pub cr_lf : (b : ℕ) → b ≡ 10 → Moves Cr (b ∷ []) Start (b ∷ [])
 cr_lf b e = let P : ℕ → Type 0 = λ x. Moves Cr (x ∷ []) Start (x ∷ []) in subst P (sym e) cr_lf10
 
 -- A run with no CR, past a line's front.
-pub run_on : (run : List ℕ) → All (λ x. x ≡ 13 → ⊥) run → Moves Inside run Inside run
+pub run_on : (run : List ℕ) → AllByRecursion (λ x. x ≡ 13 → ⊥) run → Moves Inside run Inside run
 run_on [] all = moves_none Inside
 run_on (x ∷ run) all =
     let P : Bool → Type 0 = λ w. Moves Inside (x ∷ []) (cond w Cr Inside) (x ∷ []) in

@@ -1,6 +1,6 @@
 -- The octets of replies, by their parts and by their length.
 use Rattle.std.proofs.Common.{◌≡◌, ℕ, ◌<◌, ◌≤◌, ◌⊎◌, List, [], ◌++◌, length, codes, decimal, Option, sym, ap, ◌∙◌, subst, inl, inr, append_assoc, arith}
-use Rattle.std.specs.List.{AllByRecursion as All}
+use Rattle.std.specs.List.{AllByRecursion}
 use Rattle.std.proofs.lemmas.Fmt.{length-decimal-le}
 use Rattle.std.proofs.lemmas.List.{append-nil, length-append}
 use Rattle.refusals.specs.declared.refusal.RoomFault.{RoomFault}
@@ -33,9 +33,9 @@ named_parts name size r n =
           ]
     ]
 
-pub named-values : (r : Reply) → Named r → All (λ v. v < 256) (values_of r)
+pub named-values : (r : Reply) → Named r → AllByRecursion (λ v. v < 256) (values_of r)
 named-values r n =
-    let P : Reply → Type 0 = λ x. All (λ v. v < 256) (values_of x) in
+    let P : Reply → Type 0 = λ x. AllByRecursion (λ v. v < 256) (values_of x) in
     elim n [ inl e ↦ subst P (sym e) tt | inr m ↦ elim m [ inl e ↦ subst P (sym e) tt | inr e ↦ subst P (sym e) tt ] ]
 
 pub extensions_parts : (name : List ℕ) (size : ℕ) → octets_of name size Extensions ≡ parts (lead_of Extensions) name (codes "\r\n250-SIZE ") (decimal size) (codes "\r\n250-PIPELINING\r\n250 CHUNKING\r\n")
@@ -56,13 +56,13 @@ said name size r r' lead a b c d a' c' is l p q e =
 pub written : (name : List ℕ) (size : ℕ) (r : Reply) (was out xs : List ℕ) (at : ℕ) (end : Option ℕ) → octets_of name size r ≡ xs → end ≡ behind was at xs → out ≡ put was at xs → (end ≡ behind was at (octets_of name size r)) × (out ≡ put was at (octets_of name size r))
 written name size r was out xs at end e p q = (p ∙ ap (behind was at) (sym e), q ∙ ap (put was at) (sym e))
 
-pub values_at : (r r' : Reply) → r ≡ r' → All (λ v. v < 256) (values_of r') → All (λ v. v < 256) (values_of r)
-values_at r r' is all = let P : Reply → Type 0 = λ x. All (λ v. v < 256) (values_of x) in subst P (sym is) all
+pub values_at : (r r' : Reply) → r ≡ r' → AllByRecursion (λ v. v < 256) (values_of r') → AllByRecursion (λ v. v < 256) (values_of r)
+values_at r r' is all = let P : Reply → Type 0 = λ x. AllByRecursion (λ v. v < 256) (values_of x) in subst P (sym is) all
 
 three_digits : (n : ℕ) → n < 256 → length (decimal n) ≤ 3
 three_digits n lt = length-decimal-le 3 n (omega arith) (omega arith) (omega arith)
 
-pub short : (name : List ℕ) (size : ℕ) (r : Reply) → length name ≤ 40 → size ≤ 65536 → All (λ v. v < 256) (values_of r) → length (octets_of name size r) ≤ 256
+pub short : (name : List ℕ) (size : ℕ) (r : Reply) → length name ≤ 40 → size ≤ 65536 → AllByRecursion (λ v. v < 256) (values_of r) → length (octets_of name size r) ≤ 256
 short name size Greeting n s v = simp length-append (omega arith)
 short name size Closing n s v = simp length-append (omega arith)
 short name size Hello n s v = simp length-append (omega arith)

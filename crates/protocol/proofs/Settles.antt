@@ -1,6 +1,6 @@
 -- What was heard settles the state.
 use Rattle.std.proofs.Common.{◌≡◌, ℕ, ◌≤◌, Bool, List, [], ◌∷◌, ◌++◌, length, take, drop, sym, refl, ap, ◌∙◌, subst, inl, inr, append_assoc, arith}
-use Rattle.std.specs.List.{flat_map, AllByRecursion as All}
+use Rattle.std.specs.List.{flat_map, AllByRecursion}
 use Rattle.std.proofs.lemmas.List.{append-nil, same_from_push}
 use Rattle.protocol.specs.declared.part.DataPart.{DataPart}
 use Rattle.protocol.specs.declared.part.LinePlace.{LinePlace}
@@ -86,7 +86,7 @@ ends heard more d e was a b s t =
     (r.0, l.0, l.1, l.2)
 
 -- What is known to be payload is payload of every message that may come.
-stays : (more heard : List ℕ) (p : LinePlace) (texts : List (List ℕ)) (rest q : List ℕ) → Lines heard texts rest → All Body texts → At p rest → Message (heard ++ more) q → (tail : List ℕ) × (q ≡ known p texts rest ++ tail)
+stays : (more heard : List ℕ) (p : LinePlace) (texts : List (List ℕ)) (rest q : List ℕ) → Lines heard texts rest → AllByRecursion Body texts → At p rest → Message (heard ++ more) q → (tail : List ℕ) × (q ≡ known p texts rest ++ tail)
 stays [] heard p texts rest q c b at m =
     let same : heard ++ [] ≡ heard = append-nil heard in
     let P : List ℕ → Type 0 = λ t. Message t q in

@@ -1,6 +1,6 @@
 -- What octets do to a data part and its area.
 use Rattle.std.proofs.Common.{◌≡◌, ℕ, ◌+◌, ◌-◌, ◌<◌, ◌≤◌, Bool, true, false, List, [], ◌∷◌, ◌++◌, length, get_or, take, drop, sym, refl, ap, ◌∙◌, subst, inl, inr, append_assoc, zero-le, arith}
-use Rattle.std.specs.List.{flat_map, AllByRecursion as All}
+use Rattle.std.specs.List.{flat_map, AllByRecursion}
 use Rattle.std.proofs.lemmas.List.Edits.{get_or-between}
 use Rattle.std.proofs.ByRecursion.{All-from_get_or}
 use Rattle.std.proofs.lemmas.List.{append-nil, length-drop, length-take-le, get_or-drop, get_or-take, take_more, take-append-drop, take-take}
@@ -59,7 +59,7 @@ took_quiet p p' octets d area moves is =
     took_on p p' octets [] d d' area area moves is refl (adds_nothing d d' area refl refl)
 
 -- The end line is whole.
-pub closes : (heard : List ℕ) (texts : List (List ℕ)) (rest : List ℕ) → Lines heard texts rest → All Body texts → rest ≡ 46 ∷ 13 ∷ [] → Message (heard ++ (10 ∷ [])) (flat_map carried texts)
+pub closes : (heard : List ℕ) (texts : List (List ℕ)) (rest : List ℕ) → Lines heard texts rest → AllByRecursion Body texts → rest ≡ 46 ∷ 13 ∷ [] → Message (heard ++ (10 ∷ [])) (flat_map carried texts)
 closes heard texts rest c b is = record { texts = texts; cut = lines_end heard texts rest dot c is; body = b; carries = refl }
 
 pub took_end : (b : ℕ) (d : DataPart) (area : List ℕ) → b ≡ 10 → d.place ≡ DotCr → DataTook d d area area (b ∷ []) true
@@ -114,7 +114,7 @@ took_run xs i e d f g a b c lt fits clear t is same adds =
     let run = take (e - i) (drop i xs) in
     let m = length-drop i xs in
     let n : length (take (e - i) (drop i xs)) ≡ e - i = length-take-le (e - i) (drop i xs) (omega arith) in
-    let all : All (λ x. x ≡ 13 → ⊥) run = All-from_get_or (λ x. x ≡ 13 → ⊥) run 0 (λ k hi q. clear (i + k) (omega arith) (omega arith) (sym (get_or-drop i xs k 0) ∙ sym (get_or-take (e - i) (drop i xs) k 0 (omega arith)) ∙ q)) in
+    let all : AllByRecursion (λ x. x ≡ 13 → ⊥) run = All-from_get_or (λ x. x ≡ 13 → ⊥) run 0 (λ k hi q. clear (i + k) (omega arith) (omega arith) (sym (get_or-drop i xs k 0) ∙ sym (get_or-take (e - i) (drop i xs) k 0 (omega arith)) ∙ q)) in
     let r = took_on Inside Inside run run f g b c (run_on run all) is (same ∙ is) adds in
     let P : List ℕ → Type 0 = λ t. DataTook d g a c t false in
     subst P (sym (parted xs i e (omega arith))) (took_both (take i xs) run d f g a b c false t r)

@@ -1,6 +1,6 @@
 -- What the state of a data part and its area stand for, however the octets were cut into feeds.
 use Rattle.std.specs.Prelude.{◌≡◌, ℕ, ◌<◌, ◌≤◌, min, Bool, true, false, cond, List, [], ◌∷◌, ◌++◌, length, take, drop, ◌==◌, ◌≢◌, nat_lt, slice_index}
-use Rattle.std.specs.List.{flat_map, AllByRecursion as All}
+use Rattle.std.specs.List.{flat_map, AllByRecursion}
 use Rattle.protocol.specs.declared.part.DataPart.{DataPart}
 use Rattle.protocol.specs.declared.part.LinePlace.{LinePlace}
 use Rattle.protocol.specs.declared.part.LinePlace.TheVariants.{Start, Inside, Cr, Dot, DotCr}
@@ -37,7 +37,7 @@ pub record DataStands (heard : List ℕ) (d : DataPart) (was area : List ℕ) : 
   pub texts : List (List ℕ)
   pub rest : List ℕ
   pub cut : Lines heard texts rest
-  pub body : All Body texts
+  pub body : AllByRecursion Body texts
   pub place : At d.place rest
   pub laid : Laid (known d.place texts rest) was area d.kept d.over
 

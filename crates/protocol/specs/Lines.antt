@@ -1,6 +1,6 @@
 -- Octets cut into lines: a line ends at its first CR LF, and what follows the last CR LF is an unfinished rest.
 use Rattle.std.specs.Prelude.{◌≡◌, ℕ, cond, List, [], ◌∷◌, ◌++◌, reverse, replicate, ◌==◌, ◌≢◌}
-use Rattle.std.specs.List.{flat_map, AllByRecursion as All}
+use Rattle.std.specs.List.{flat_map, AllByRecursion}
 
 -- No CR LF stands in the octets.
 abbrev pub Unbroken : List ℕ → Type 0
@@ -13,7 +13,7 @@ ended text = text ++ (13 ∷ 10 ∷ [])
 -- The octets are lines, given by their texts, and then the rest.
 pub record Lines (octets : List ℕ) (texts : List (List ℕ)) (rest : List ℕ) : Type 0 where
   pub whole : octets ≡ flat_map ended texts ++ rest
-  pub each : All Unbroken texts
+  pub each : AllByRecursion Unbroken texts
   pub unended : Unbroken rest
 
 -- A text less the spaces at its end.

@@ -1,6 +1,6 @@
 -- The data part of a message, over whole octet strings: lines, then the first line that is just a dot.
 use Rattle.std.specs.Prelude.{◌≡◌, ℕ, cond, ◌⊎◌, List, [], ◌∷◌, ◌++◌, codes, ◌==◌}
-use Rattle.std.specs.List.{flat_map, AllByRecursion as All}
+use Rattle.std.specs.List.{flat_map, AllByRecursion}
 use Rattle.protocol.specs.Lines.{Lines, ended}
 
 abbrev pub dot : List ℕ
@@ -23,7 +23,7 @@ carried text = undotted (ended text)
 pub record Message (octets payload : List ℕ) : Type 0 where
   pub texts : List (List ℕ)
   pub cut : Lines octets (texts ++ (dot ∷ [])) []
-  pub body : All Body texts
+  pub body : AllByRecursion Body texts
   pub carries : payload ≡ flat_map carried texts
 
 -- Octets in which no line ends the message.
@@ -31,7 +31,7 @@ pub record Unfinished (octets : List ℕ) : Type 0 where
   pub texts : List (List ℕ)
   pub rest : List ℕ
   pub cut : Lines octets texts rest
-  pub body : All Body texts
+  pub body : AllByRecursion Body texts
 
 pub record MessageLaws : Type 0 where
   -- a message has one payload, and goes on in no other message

@@ -1,5 +1,5 @@
 use Rattle.std.proofs.Common.{◌≡◌, ℕ, ◌<◌, length, get_or, take, sym, refl, ◌∙◌, subst, arith}
-use Rattle.std.specs.List.{prefix_len, AllByRecursion as All}
+use Rattle.std.specs.List.{prefix_len, AllByRecursion}
 use Rattle.std.proofs.lemmas.Bool.{true≢false}
 use Rattle.address.specs.Words.{word_octet, or_dot, Dotted, IsWord}
 use Rattle.address.proofs.Labels.{dotless}
@@ -38,7 +38,7 @@ returns-then-end-s c =
     let e : end ≡ prefix_len (or_dot p) s = omega (arith, l.0, c.loop-word.invariant.1, c.word_end-end.ensures) in (
       e,
       subst (λ (n : ℕ). Dotted c.args.word (take n s)) (sym e)
-          (c.loop-word.invariant.2 (subst (All (IsWord c.args.word)) (sym l.1) (c.if-not-is_word.ensures.0 refl, tt))),
+          (c.loop-word.invariant.2 (subst (AllByRecursion (IsWord c.args.word)) (sym l.1) (c.if-not-is_word.ensures.0 refl, tt))),
     )
 
 pub loop-word-preserved : goal.loop-word-preserved
@@ -47,6 +47,6 @@ loop-word-preserved c =
     let n = word_next (word_octet c.args.word) (dotless c.args.word) W c.args.s.now c.loop-word.start c.word_end-end.result c.word_end-end.ensures c.if-end-s.false c.if-s-end-ne46.false in (
       omega (arith, c.if-end-s.false),
       sym n.0 ∙ c.loop-word.invariant.1,
-      λ h. c.loop-word.invariant.2 (subst (All W) (sym n.1) (c.if-not-is_word.ensures.0 refl, h)),
-      λ h. (subst (All W) n.1 (c.loop-word.invariant.3 h)).1,
+      λ h. c.loop-word.invariant.2 (subst (AllByRecursion W) (sym n.1) (c.if-not-is_word.ensures.0 refl, h)),
+      λ h. (subst (AllByRecursion W) n.1 (c.loop-word.invariant.3 h)).1,
     )

@@ -4,7 +4,7 @@ use Rattle.std.specs.List.{prefix_len}
 use Rattle.std.proofs.lemmas.Int.Digits.{digits_value_more}
 use Rattle.std.proofs.lemmas.List.Sums.{prefix_len-drop_yes, prefix_len-drop_no, prefix_len-drop_all}
 use Rattle.command.specs.Numerals.{decimal_value, kept}
-use Rattle.command.proofs.Counts.{digit_value, kept_more}
+use Rattle.command.proofs.Counts.{digit_value_lem, kept_more}
 use Rattle.command.proofs.numeral.leading_digits.Goals as goal
 
 pub loop-i-init : goal.loop-i-init
@@ -29,7 +29,7 @@ loop-i-preserved c =
     kept_more v (x - 48) c.saturating_mul.result c.saturating_add-value.result
     (c.saturating_mul.ensures ∙ ap (λ k. min (k * 10) (2 ^ 64 - 1)) c.loop-i.invariant.1) c.saturating_add-value.ensures in (
       omega (arith, c.loop-i.invariant.0, prefix_len-drop_yes is_ascii_digit s i 0 c.loop-i-test.true d),
-      n ∙ ap (λ k. kept (v * 10 + k)) (sym (digit_value x d)) ∙ ap kept (sym (digits_value_more 10 s i c.loop-i-test.true)),
+      n ∙ ap (λ k. kept (v * 10 + k)) (sym (digit_value_lem x d)) ∙ ap kept (sym (digits_value_more 10 s i c.loop-i-test.true)),
     )
 
 pub returns : goal.returns

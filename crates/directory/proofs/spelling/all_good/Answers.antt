@@ -1,5 +1,5 @@
 use Rattle.std.proofs.Common.{refl, subst}
-use Rattle.std.specs.List.{AllByRecursion as All}
+use Rattle.std.specs.List.{AllByRecursion}
 use Rattle.std.proofs.ByRecursion.{All-get_or, All-more}
 use Rattle.std.proofs.lemmas.List.{take_all}
 use Rattle.std.proofs.lemmas.Bool.{false≢true}
@@ -21,6 +21,6 @@ loop-i-preserved c =
 
 pub returns : goal.returns
 returns c = (
-  λ _. subst (All (GoodRow c.args.kind c.args.text.now)) (take_all c.loop-i.i c.args.rows.now c.loop-i-test.false) c.loop-i.invariant,
+  λ _. subst (AllByRecursion (GoodRow c.args.kind c.args.text.now)) (take_all c.loop-i.i c.args.rows.now c.loop-i-test.false) c.loop-i.invariant,
   λ _. refl,
 )

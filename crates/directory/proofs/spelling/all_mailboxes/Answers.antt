@@ -1,5 +1,5 @@
 use Rattle.std.proofs.Common.{◌<◌, refl, subst, arith}
-use Rattle.std.specs.List.{AllByRecursion as All}
+use Rattle.std.specs.List.{AllByRecursion}
 use Rattle.std.proofs.ByRecursion.{All-get_or, All-more}
 use Rattle.std.proofs.lemmas.List.{take_all}
 use Rattle.std.proofs.lemmas.Bool.{false≢true}
@@ -22,4 +22,4 @@ loop-i-preserved c =
 
 pub returns : goal.returns
 returns c =
-    (λ _. subst (All Below) (take_all c.loop-i.i c.args.rows.now c.loop-i-test.false) c.loop-i.invariant, λ _. refl)
+    (λ _. subst (AllByRecursion Below) (take_all c.loop-i.i c.args.rows.now c.loop-i-test.false) c.loop-i.invariant, λ _. refl)
