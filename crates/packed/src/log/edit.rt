@@ -1,4 +1,4 @@
-ghost use Rattle.std.specs.Prelude.{◌≡◌, ℕ, ◌+◌, ◌<◌, ◌≤◌, [], ◌++◌, length, get_or, take, drop, None, vec_len, MatchResult, slice_index_or};
+ghost use Rattle.std.specs.Prelude.{◌≡◌, ℕ, ◌+◌, ◌<◌, ◌≤◌, [], ◌++◌, length, take, drop, None, vec_len, MatchResult, slice_index_or};
 ghost use Rattle.packed.specs.Meaning.{LawfulLog, floor_of, held_of, lot_of, room_for};
 ghost use Rattle.packed.specs.Packing.{lowered, total};
 ghost use Rattle.refusals.specs.Refusals.{notice, plain};
@@ -42,7 +42,7 @@ pub fn build(
 fn lower(rows: &mut [LogRow], from: usize, to: usize, by: usize)
     requires ordered { from ≤ to }
     requires within { to ≤ length rows.old }
-    requires high { (k : ℕ) (d : LogRow) → from ≤ k → k < to → by ≤ (get_or rows.old k d).offset }
+    requires high { (k : ℕ) (d : LogRow) → from ≤ k → k < to → by ≤ (slice_index_or rows.old k d).offset }
     ensures below { take from rows.new ≡ take from rows.old }
     ensures after { (k : ℕ) (d : LogRow) → from ≤ k → k < to → slice_index_or rows.new k d ≡ lowered by (slice_index_or rows.old k d) }
 {
