@@ -4,7 +4,7 @@ ghost use Rattle.session.specs.Places.{Hears, Heeding, Opens, Still, setting_of}
 ghost use Rattle.session.specs.declared.session.Mode.TheVariants as modes;
 
 use crate::chunk::lay;
-use crate::command::seek;
+use crate::obey::seek;
 use crate::session::{ChunkPart, Event, Heard, Mode, Session};
 use directory::directory::Directory;
 use judgement::judge::judge;

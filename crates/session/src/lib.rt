@@ -2,8 +2,8 @@
 #![tactic(auto)]
 
 mod chunk;
-mod command;
 pub mod hear;
+mod obey;
 pub mod queue;
 pub mod session;
 pub mod waiting;
