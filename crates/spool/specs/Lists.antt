@@ -1,4 +1,5 @@
--- An ordered list keeps its records at the front of a memory that may be longer. What lies past its end is open.
+-- An ordered list keeps its records at the front of a memory that may be longer. What lies past its end is open, but where one
+-- record is appended.
 use Rattle.std.specs.Prelude.{ℕ, ◌+◌, cond, List, ◌++◌, length, take, drop, Some, None, Ok, Err, Option, Result, nat_le, slice_set}
 use Rattle.refusals.specs.Refusals.{Notice, plain}
 use Rattle.spool.specs.declared.list.OrderedList.{OrderedList}

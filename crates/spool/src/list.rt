@@ -1,5 +1,5 @@
 ghost use Rattle.std.specs.Prelude.{◌≡◌, ℕ, ◌+◌, ◌-◌, ◌<◌, ◌≤◌, min, true, false, [], ◌∷◌, ◌++◌, length, take, drop, is_ok};
-ghost use Rattle.spool.specs.Lists.{appended, appends, placed, present, records as recordsOf, remaining, removes};
+ghost use Rattle.spool.specs.Lists.{appended, appends, placed, present, records as records_of, remaining, removes};
 ghost use Rattle.refusals.specs.Refusals.{told};
 ghost use Rattle.std.specs.List.{slice_get};
 
@@ -21,14 +21,14 @@ impl OrderedList {
 
     // How many records the list has in a memory.
     pub fn len<T: Copy>(&self, memory: &[T]) -> usize
-        ensures { result ≡ length (recordsOf self.now memory.now) }
+        ensures { result ≡ length (records_of self.now memory.now) }
     {
         memory.len().min(self.count)
     }
 
     // The record at a place.
     pub fn get<T: Copy>(&self, memory: &[T], at: usize) -> Result<T, Refusal>
-        ensures { told result ≡ present (slice_get (recordsOf self.now memory.now) at) }
+        ensures { told result ≡ present (slice_get (records_of self.now memory.now) at) }
     {
         if at >= self.count || at >= memory.len() {
             return Err(Refusal::NoSuchEntry);
@@ -38,9 +38,9 @@ impl OrderedList {
 
     // Adds records at the end.
     pub fn extend<T: Copy>(&mut self, memory: &mut [T], items: &[T]) -> Result<(), Refusal>
-        ensures answer { told result ≡ appends (length memory.old) (recordsOf self.old memory.old) items.now }
-        ensures after { recordsOf self.new memory.new ≡ appended (length memory.old) (recordsOf self.old memory.old) items.now }
-        ensures count { is_ok result ≡ true → self.new.count ≡ length (recordsOf self.new memory.new) }
+        ensures answer { told result ≡ appends (length memory.old) (records_of self.old memory.old) items.now }
+        ensures after { records_of self.new memory.new ≡ appended (length memory.old) (records_of self.old memory.old) items.now }
+        ensures count { is_ok result ≡ true → self.new.count ≡ length (records_of self.new memory.new) }
         ensures refused { is_ok result ≡ false → (self.new ≡ self.old) × (memory.new ≡ memory.old) }
     {
         let count = self.count.min(memory.len());
@@ -55,11 +55,11 @@ impl OrderedList {
 
     // Adds a record at the end.
     pub fn append<T: Copy>(&mut self, memory: &mut [T], item: T) -> Result<(), Refusal>
-        ensures answer { told result ≡ appends (length memory.old) (recordsOf self.old memory.old) (item ∷ []) }
-        ensures after { recordsOf self.new memory.new ≡ appended (length memory.old) (recordsOf self.old memory.old) (item ∷ []) }
-        ensures count { is_ok result ≡ true → self.new.count ≡ length (recordsOf self.new memory.new) }
+        ensures answer { told result ≡ appends (length memory.old) (records_of self.old memory.old) (item ∷ []) }
+        ensures after { records_of self.new memory.new ≡ appended (length memory.old) (records_of self.old memory.old) (item ∷ []) }
+        ensures count { is_ok result ≡ true → self.new.count ≡ length (records_of self.new memory.new) }
         ensures refused { is_ok result ≡ false → (self.new ≡ self.old) × (memory.new ≡ memory.old) }
-        ensures memory { memory.new ≡ placed memory.old (recordsOf self.old memory.old) item }
+        ensures memory { memory.new ≡ placed memory.old (records_of self.old memory.old) item }
     {
         let count = self.count.min(memory.len());
         if count >= memory.len() {
@@ -77,9 +77,9 @@ impl OrderedList {
         at: usize,
         by: usize,
     ) -> Result<(), Refusal>
-        ensures answer { told result ≡ removes (recordsOf self.old memory.old) at by }
-        ensures after { recordsOf self.new memory.new ≡ remaining (recordsOf self.old memory.old) at by }
-        ensures count { is_ok result ≡ true → self.new.count ≡ length (recordsOf self.new memory.new) }
+        ensures answer { told result ≡ removes (records_of self.old memory.old) at by }
+        ensures after { records_of self.new memory.new ≡ remaining (records_of self.old memory.old) at by }
+        ensures count { is_ok result ≡ true → self.new.count ≡ length (records_of self.new memory.new) }
         ensures refused { is_ok result ≡ false → (self.new ≡ self.old) × (memory.new ≡ memory.old) }
     {
         let count = self.count.min(memory.len());
@@ -96,9 +96,9 @@ impl OrderedList {
 
     // Takes out the record at a place.
     pub fn remove<T: Copy>(&mut self, memory: &mut [T], at: usize) -> Result<(), Refusal>
-        ensures answer { told result ≡ removes (recordsOf self.old memory.old) at 1 }
-        ensures after { recordsOf self.new memory.new ≡ remaining (recordsOf self.old memory.old) at 1 }
-        ensures count { is_ok result ≡ true → self.new.count ≡ length (recordsOf self.new memory.new) }
+        ensures answer { told result ≡ removes (records_of self.old memory.old) at 1 }
+        ensures after { records_of self.new memory.new ≡ remaining (records_of self.old memory.old) at 1 }
+        ensures count { is_ok result ≡ true → self.new.count ≡ length (records_of self.new memory.new) }
         ensures refused { is_ok result ≡ false → (self.new ≡ self.old) × (memory.new ≡ memory.old) }
     {
         self.remove_run(memory, at, 1)
