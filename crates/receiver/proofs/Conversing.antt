@@ -1,5 +1,6 @@
 -- A feed, step by step: what lasts from one step to the next.
-use Rattle.std.proofs.Common.{◌≡◌, ℕ, zero, suc, ◌+◌, ◌<◌, ◌≤◌, List, [], ◌∷◌, ◌++◌, length, take, drop, Some, None, Option, sym, refl, ap, ◌∙◌, subst, append_assoc, arith}
+use Rattle.std.proofs.Common.{◌≡◌, ℕ, ◌+◌, ◌<◌, ◌≤◌, List, [], ◌∷◌, ◌++◌, length, take, drop, Some, None, Option, sym, refl, ap, ◌∙◌, subst, append_assoc, arith}
+use Rattle.std.proofs.Math.Seq.{take-add}
 use Rattle.std.proofs.lemmas.List.{append-nil, drop_at, drop-drop, length-append, length-take-le, take_at}
 use Rattle.ends.specs.declared.ledger.Ledger.{Ledger}
 use Rattle.protocol.specs.Outputs.{overlaid}
@@ -14,15 +15,6 @@ use Rattle.receiver.specs.Turns.{filed_by}
 use Rattle.receiver.specs.declared.seat.Seat.{Seat}
 use Rattle.receiver.proofs.Telling.{told_more, told_none, told_write, went_both, went_write}
 use Rattle.std.specs.List.{flat_map}
-
-pub take-both : {A : Type 0} (n k : ℕ) (xs : List A) → take n xs ++ take k (drop n xs) ≡ take (n + k) xs
-take-both zero k xs = ap (λ (j : ℕ). take j xs) (let z : k ≡ zero + k = omega arith in z)
-take-both (suc n) k [] = take_nothing k ∙ sym (take_nothing (suc n + k))
-  where
-    take_nothing : {A : Type 0} (k : ℕ) → take {A = A} k [] ≡ []
-    take_nothing zero = refl
-    take_nothing (suc k) = refl
-take-both (suc n) k (x ∷ xs) = ap (λ ys. x ∷ ys) (take-both n k xs) ∙ ap (λ (j : ℕ). take j (x ∷ xs)) (let z : suc (n + k) ≡ suc n + k = omega arith in z)
 
 pub first_some : (ws : List Reply) (r : Reply) → Some r ≡ first ws → ws ≡ r ∷ drop 1 ws
 first_some [] r h = let z : ◌≡◌ {A = ℕ} 0 1 = cc in absurd (omega arith)
@@ -130,6 +122,6 @@ module _ {S : Type 0} (held : S → List Entry) (lot : S → Option (List Entry)
         size-stays = sz ∙ c.size-stays;
         idle = i;
         tail = c.tail;
-        told = subst T (take-both taken n input) (subst U (append-nil (take written output)) (told_more held lot room name find m m₁ m₂ (take taken input) (take n (drop taken input)) (take written output) [] c.told t));
+        told = subst T (sym (take-add taken n input)) (subst U (append-nil (take written output)) (told_more held lot room name find m m₁ m₂ (take taken input) (take n (drop taken input)) (take written output) [] c.told t));
         paced = λ p. absurd (omega arith);
       }
