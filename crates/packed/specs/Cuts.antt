@@ -49,7 +49,15 @@ cut-append xs ys (r ∷ rs) ss h =
     ∙ ap (λ v. entry_at xs 0 r ∷ cut v (rs ++ ss)) b
     ∙ ap (λ v. entry_at xs 0 r ∷ v) (cut-append (drop r.length xs) ys rs ss n)
 
--- The entry and the row at a place.
+-- The entries of rows without gaps, and the row at a place.
+pub cut_rows : (from : ℕ) (bs : List ℕ) (rs : List LogRow) → offsets rs ≡ starts from rs → cut (drop from bs) rs ≡ map (λ r. entry_at bs r.offset r) rs
+cut_rows from bs [] e = refl
+cut_rows from bs (r ∷ rs) e =
+    let a : r.offset ≡ from = cc in
+    let t : offsets rs ≡ starts (from + r.length) rs = cc in
+    ap (λ v. entry_at bs v r ∷ cut (drop r.length (drop from bs)) rs) (sym a)
+    ∙ ap (λ v. entry_at bs r.offset r ∷ v) (ap (λ v. cut v rs) (drop-drop r.length from bs) ∙ cut_rows (from + r.length) bs rs t)
+
 pub cut-nth : (bs : List ℕ) (rs : List LogRow) (at : ℕ) (r : LogRow) → slice_get rs at ≡ Some r → slice_get (cut bs rs) at ≡ Some (entry_at bs (total (take at rs)) r)
 cut-nth bs [] at r h = none_some r _ h
 cut-nth bs (x ∷ rs) zero r h = ap (λ v. Some (entry_at bs 0 v)) (same_some x r h)

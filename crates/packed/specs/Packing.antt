@@ -1,6 +1,7 @@
 -- Payloads that lie in one memory, one behind the other, without gaps.
 use Rattle.std.specs.Prelude.{ℕ, ◌+◌, ◌-◌, List, [], ◌∷◌, take, drop}
 use Rattle.spool.specs.Entries.{Entry}
+use Rattle.spool.specs.declared.entry.Summary.{Summary}
 use Rattle.packed.specs.declared.row.LogRow.{LogRow}
 
 -- How many octets the payloads of some rows have together.
@@ -25,3 +26,7 @@ starts from (r ∷ rs) = from ∷ starts (from + r.length) rs
 -- A row whose payload moved down.
 abbrev pub lowered : ℕ → LogRow → LogRow
 lowered by r = record { offset = r.offset - by; length = r.length; mailbox = r.mailbox }
+
+-- What a row tells of its entry.
+abbrev pub told_by : LogRow → Summary
+told_by r = record { mailbox = r.mailbox; length = r.length }

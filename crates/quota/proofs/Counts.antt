@@ -1,34 +1,33 @@
--- What entries come to, as a spool's calls alter them.
-use Rattle.std.proofs.Common.{◌≡◌, ℕ, zero, suc, ◌+◌, ◌≤◌, cond, eqb, ltb, List, [], ◌∷◌, ◌++◌, length, get_or, take, Some, None, Ok, sum_by, Option, sym, refl, ap, ◌∙◌, arith}
+-- What entries come to, as a spool tells of them and as its calls alter them.
+use Rattle.std.proofs.Common.{◌≡◌, ℕ, ◌+◌, ◌≤◌, cond, eqb, ltb, List, [], length, get_or, take, Some, None, Ok, sum_by, Option, sym, refl, ap, ◌∙◌, arith}
 use Rattle.std.specs.List.{slice_get, remove}
-use Rattle.std.proofs.lemmas.Option.{slice_get-get_or}
-use Rattle.std.proofs.lemmas.List.Sums.{sum_by-append, sum_by-cons, sum_by_more, sum_by_push}
-use Rattle.std.proofs.lemmas.Bool.{cond_both, ltb-true}
+use Rattle.std.proofs.lemmas.Option.{get_or_from_slice_get, slice_get-get_or}
+use Rattle.std.proofs.lemmas.List.Sums.{sum_by-append, sum_by-remove, sum_by_more}
+use Rattle.std.proofs.lemmas.Bool.{cond_both, cond-false, cond-true, eq-eqb, ltb-true, ne_eqb}
 use Rattle.spool.specs.Entries.{Entry}
 use Rattle.spool.specs.Rules.{opened, remains, staged, summary, tells}
 use Rattle.spool.specs.declared.entry.Summary.{Summary}
-use Rattle.spool.proofs.Told.{remains_done, tells_at, told_at}
-use Rattle.quota.specs.Shares.{both, share}
+use Rattle.spool.proofs.Places.{nth-within}
+use Rattle.spool.proofs.Told.{told-entry, told_at}
+use Rattle.quota.specs.Shares.{both, entries_of, octets_of, share}
 
--- An entry that is told of.
-told-entry : (es : List Entry) (at : ℕ) (s : Summary) (d : Entry) → Ok s ≡ tells es at → summary (get_or es at d) ≡ s
-told-entry [] at s d h = let z : ◌≡◌ {A = ℕ} 0 1 = cc in absurd (omega arith)
-told-entry (x ∷ es) zero s d h = cc
-told-entry (x ∷ es) (suc at) s d h = told-entry es at s d h
+-- The entries before a place and the one that is told of there, which counts where it is for the mailbox.
+module _ (w : Summary → ℕ) (m : ℕ) (es : List Entry) (at : ℕ) (s : Summary) (is : Ok s ≡ tells es at) where
+  more : sum_by (share (λ e. w (summary e)) m) (take (at + 1) es) ≡ sum_by (share (λ e. w (summary e)) m) (take at es) + cond (eqb s.mailbox m) (w s) 0
+  more =
+      let t = told-entry es at s is in
+      sum_by_more (share (λ e. w (summary e)) m) es at t.0 (told_at es at s is)
+      ∙ ap (λ v. sum_by (share (λ e. w (summary e)) m) (take at es) + cond (eqb v.mailbox m) (w v) 0) (ap summary (get_or_from_slice_get es at t.0 t.0 t.1.0) ∙ sym t.1.1)
 
--- The entries before a place and the one that is told of there.
-pub sum_told : (w : Summary → ℕ) (m : ℕ) (es : List Entry) (at : ℕ) (s : Summary) → Ok s ≡ tells es at →
-    sum_by (share (λ e. w (summary e)) m) (take (at + 1) es) ≡ sum_by (share (λ e. w (summary e)) m) (take at es) + cond (eqb s.mailbox m) (w s) 0
-sum_told w m es at s h =
-    let d : Entry = record { mailbox = 0; payload = [] } in
-    sum_by_more (share (λ e. w (summary e)) m) es at d (told_at es at s h)
-    ∙ ap (λ v. sum_by (share (λ e. w (summary e)) m) (take at es) + cond (eqb v.mailbox m) (w v) 0) (told-entry es at s d h)
+  pub counted : s.mailbox ≡ m → sum_by (share (λ e. w (summary e)) m) (take (at + 1) es) ≡ sum_by (share (λ e. w (summary e)) m) (take at es) + w s
+  counted e = omega (arith, more, cond-true (eqb s.mailbox m) (w s) 0 (eq-eqb _ _ e))
+
+  pub passed : (s.mailbox ≡ m → ⊥) → sum_by (share (λ e. w (summary e)) m) (take (at + 1) es) ≡ sum_by (share (λ e. w (summary e)) m) (take at es)
+  passed ne = omega (arith, more, cond-false (eqb s.mailbox m) (w s) 0 (ne_eqb _ _ ne))
 
 -- What is left once an entry is taken out.
-sum_removed : (f : Entry → ℕ) (es : List Entry) (at : ℕ) (e : Entry) → slice_get es at ≡ Some e → sum_by f (remove es at) + f e ≡ sum_by f es
-sum_removed f [] at e h = let z : ◌≡◌ {A = ℕ} 0 1 = cc in absurd (omega arith)
-sum_removed f (x ∷ es) zero e h = let z : x ≡ e = cc in omega (arith, sum_by-cons f x es, ap f z)
-sum_removed f (x ∷ es) (suc at) e h = omega (arith, sum_by-cons f x es, sum_by-cons f x (remove es at), sum_removed f es at e h)
+pub sum_removed : (f : Entry → ℕ) (es : List Entry) (at : ℕ) (e : Entry) → slice_get es at ≡ Some e → sum_by f (remove es at) + f e ≡ sum_by f es
+sum_removed f es at e h = omega (arith, sum_by-remove f es at e (nth-within es at e h), ap f (get_or_from_slice_get es at e e h))
 
 pub sum-remains : (f : Entry → ℕ) (l : Option (List Entry)) (h : List Entry) (at : ℕ) → sum_by f (remains l h at) ≤ sum_by f h
 sum-remains f None h at =
@@ -42,16 +41,6 @@ pub staged-opened : (l : Option (List Entry)) → staged (opened l) ≡ staged l
 staged-opened None = refl
 staged-opened (Some es) = refl
 
--- What is held and staged, before and after a call.
-module _ (h h' : List Entry) (l l' : Option (List Entry)) where
-  pub sums : (f : Entry → ℕ) → (sum_by f (both h l) ≡ sum_by f h + sum_by f (staged l)) × (sum_by f (both h' l') ≡ sum_by f h' + sum_by f (staged l'))
-  sums f = (sum_by-append f h (staged l), sum_by-append f h' (staged l'))
-
-  -- A removal takes one entry away, and staging adds one.
-  pub sum_left : (at : ℕ) (e : Entry) → h' ≡ remains l h at → l' ≡ l → l ≡ None → slice_get h at ≡ Some e → (f : Entry → ℕ) → sum_by f (both h' l') + f e ≡ sum_by f (both h l)
-  sum_left at e a b o i f =
-      let k : h' ≡ remove h at = a ∙ sym (remains_done l h at o (told_at h at (summary e) (tells_at h at e i))) in
-      omega (arith, sums f, ap (sum_by f) k, sum_removed f h at e i, ap (λ v. sum_by f (staged v)) b)
-
-  pub sum-grown : (e : Entry) → h' ≡ h → l' ≡ Some (staged l ++ e ∷ []) → (f : Entry → ℕ) → sum_by f (both h' l') ≡ sum_by f (both h l) + f e
-  sum-grown e a b f = omega (arith, sums f, ap (sum_by f) a, ap (λ v. sum_by f (staged v)) b, sum_by_push f (staged l) e)
+-- What a mailbox has is what is held for it and what is staged.
+pub parts : (h : List Entry) (l : Option (List Entry)) (m : ℕ) → (entries_of m (both h l) ≡ entries_of m h + entries_of m (staged l)) × (octets_of m (both h l) ≡ octets_of m h + octets_of m (staged l))
+parts h l m = (sum_by-append (share (λ e. 1) m) h (staged l), sum_by-append (share (λ e. length e.payload) m) h (staged l))

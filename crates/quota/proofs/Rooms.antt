@@ -1,25 +1,29 @@
 -- Laws of the room under limits.
-use Rattle.std.proofs.Common.{◌≡◌, ℕ, ◌+◌, ◌<◌, ◌≤◌, cond, ltb, leb, List, length, Some, None, Ok, Err, Option, Result, sym, refl, ap, ◌∙◌, arith}
+use Rattle.std.proofs.Common.{◌≡◌, ℕ, ◌+◌, ◌<◌, ◌≤◌, ltb, leb, List, Some, None, Ok, Err, Option, Result, sym, refl, ap, ◌∙◌, arith}
 use Rattle.std.specs.Option.{option_map}
-use Rattle.std.proofs.lemmas.List.Sums.{sum_by-append}
-use Rattle.std.proofs.lemmas.Bool.{cond-false, cond-true, le-leb, lt-leb, lt-ltb}
+use Rattle.std.proofs.lemmas.Bool.{cond-true, le-leb, lt-ltb}
 use Rattle.std.proofs.lemmas.Bool.Decides.{nat_tests}
 use Rattle.spool.specs.Entries.{Entry}
-use Rattle.refusals.specs.Refusals.{Notice}
-use Rattle.spool.specs.Rules.{asks_room, staged, unless_fault}
+use Rattle.refusals.specs.Refusals.{Notice, notice, told}
+use Rattle.refusals.specs.declared.refusal.Refusal.{Refusal}
+use Rattle.std.specs.Result.{IsErrAnd, MatchResult}
+use Rattle.spool.specs.Rules.{asks_room, unless_fault}
 use Rattle.refusals.specs.declared.refusal.RoomFault.{RoomFault}
-use Rattle.quota.specs.Quotas.{allows, lifted, own, raised}
-use Rattle.quota.specs.Shares.{both, entries_of, octets_of, share}
+use Rattle.quota.specs.Quotas.{allows, lifted, raised}
+use Rattle.quota.specs.Shares.{entries_of, octets_of}
 use Rattle.quota.specs.declared.limits.Limits.{Limits}
-
-unless_none : (f : Option RoomFault) → Ok tt ≡ unless_fault f → f ≡ None
-unless_none None h = refl
-unless_none (Some f) h = let z : ◌≡◌ {A = ℕ} 0 1 = cc in absurd (omega arith)
 
 -- An answer from below.
 abbrev above : Result (Unit {0}) Notice → Result (Unit {0}) Notice
 above (Ok x) = Ok x
 above (Err n) = Err (raised n)
+
+-- A refusal that is handed up is raised.
+pub above_told : (P : Refusal → Refusal → Type 0) → ((e d : Refusal) → P e d → notice d ≡ raised (notice e)) → (r r' : Result (Unit {0}) Refusal) →
+    MatchResult r (λ x. r' ≡ Ok x) (λ e. IsErrAnd r' (P e)) → above (told r) ≡ told r'
+above_told P k (Ok x) r' h = sym (ap told h)
+above_told P k (Err e) (Ok x) h = absurd h
+above_told P k (Err e) (Err d) h = sym (ap (λ v. Err v) (k e d h))
 
 above_is : (f : Option RoomFault) → above (unless_fault f) ≡ unless_fault (option_map lifted f)
 above_is None = refl
@@ -36,17 +40,9 @@ pub record Room (q : Limits) (es : List Entry) (m n : ℕ) (r : Option RoomFault
   pub below : r ≡ None
 
 module _ (q : Limits) (es : List Entry) (m n : ℕ) (r : Option RoomFault) where
-  many_entries : q.entries < entries_of m es + 1 → allows q es m n r ≡ own 5
-  many_entries h = cond-false (leb (entries_of m es + 1) q.entries) _ _ (lt-leb _ _ h)
-
-  few-entries : entries_of m es + 1 ≤ q.entries → allows q es m n r ≡ cond (leb (octets_of m es + n) q.octets) (option_map lifted r) (own 6)
-  few-entries h = cond-true (leb (entries_of m es + 1) q.entries) _ _ (le-leb _ _ h)
-
-  many_octets : entries_of m es + 1 ≤ q.entries → q.octets < octets_of m es + n → allows q es m n r ≡ own 6
-  many_octets h k = few-entries h ∙ cond-false (leb (octets_of m es + n) q.octets) _ _ (lt-leb _ _ k)
-
   pub few-octets : entries_of m es + 1 ≤ q.entries → octets_of m es + n ≤ q.octets → allows q es m n r ≡ option_map lifted r
-  few-octets h k = few-entries h ∙ cond-true (leb (octets_of m es + n) q.octets) _ _ (le-leb _ _ k)
+  few-octets h k =
+      cond-true (leb (entries_of m es + 1) q.entries) _ _ (le-leb _ _ h) ∙ cond-true (leb (octets_of m es + n) q.octets) _ _ (le-leb _ _ k)
 
   pub none_room : allows q es m n r ≡ None → Room q es m n r
   none_room h =
@@ -55,34 +51,11 @@ module _ (q : Limits) (es : List Entry) (m n : ℕ) (r : Option RoomFault) where
       record { entries = a; octets = b; below = lifted_none r (sym (few-octets a b) ∙ h) }
 
 -- What a question for room answers, of a mailbox that there is.
-module _ (m : ℕ) (f : Option RoomFault) (inside : m < 64) where
-  asks_is : asks_room m f ≡ unless_fault f
-  asks_is = cond-true (ltb m 64) (unless_fault f) _ (lt-ltb m 64 inside)
+asks_is : (m : ℕ) (f : Option RoomFault) → m < 64 → asks_room m f ≡ unless_fault f
+asks_is m f inside = cond-true (ltb m 64) (unless_fault f) _ (lt-ltb m 64 inside)
 
-  pub asks_none : Ok tt ≡ asks_room m f → f ≡ None
-  asks_none h = unless_none f (h ∙ asks_is)
-
-module _ (q : Limits) (h : List Entry) (l : Option (List Entry)) (m n : ℕ) (r : Option RoomFault) (inside : m < 64) where
-  parts : (entries_of m (both h l) ≡ entries_of m h + entries_of m (staged l)) × (octets_of m (both h l) ≡ octets_of m h + octets_of m (staged l))
-  parts = (sum_by-append (share (λ e. 1) m) h (staged l), sum_by-append (share (λ e. length e.payload) m) h (staged l))
-
-  asks_as : (f : Option RoomFault) → allows q (both h l) m n r ≡ f → unless_fault f ≡ asks_room m (allows q (both h l) m n r)
-  asks_as f e = sym (asks_is m (allows q (both h l) m n r) inside ∙ ap unless_fault e)
-
-  pub asks_many : q.entries ≤ entries_of m h + entries_of m (staged l) → unless_fault (own 5) ≡ asks_room m (allows q (both h l) m n r)
-  asks_many a = asks_as (own 5) (many_entries q (both h l) m n r (omega (arith, parts)))
-
-  pub asks_long : entries_of m h + entries_of m (staged l) < q.entries → q.octets < octets_of m h + octets_of m (staged l) + n → unless_fault (own 6) ≡ asks_room m (allows q (both h l) m n r)
-  asks_long a b = asks_as (own 6) (many_octets q (both h l) m n r (omega (arith, parts)) (omega (arith, parts)))
-
-  -- Where the limits leave room, the answer from below decides.
-  module _ (few : entries_of m h + entries_of m (staged l) < q.entries) (fits : octets_of m h + octets_of m (staged l) + n ≤ q.octets) where
-    asks_below : (answer : Result (Unit {0}) Notice) → answer ≡ asks_room m r → above answer ≡ asks_room m (allows q (both h l) m n r)
-    asks_below answer e =
-        ap above (e ∙ asks_is m r inside) ∙ above_is r ∙ asks_as (option_map lifted r) (few-octets q (both h l) m n r (omega (arith, parts)) (omega (arith, parts)))
-
-    pub asks_room_lem : Ok tt ≡ asks_room m r → Ok tt ≡ asks_room m (allows q (both h l) m n r)
-    asks_room_lem e = asks_below (Ok tt) e
-
-    pub asks_refused : (low high : Notice) → Err low ≡ asks_room m r → high ≡ raised low → Err high ≡ asks_room m (allows q (both h l) m n r)
-    asks_refused low high e k = ap (λ v. Err v) k ∙ asks_below (Err low) e
+-- Where the limits leave room, the answer from below decides.
+pub asks_below : (q : Limits) (es : List Entry) (m n : ℕ) (r : Option RoomFault) → m < 64 → entries_of m es + 1 ≤ q.entries → octets_of m es + n ≤ q.octets →
+    (answer : Result (Unit {0}) Notice) → answer ≡ asks_room m r → above answer ≡ asks_room m (allows q es m n r)
+asks_below q es m n r inside few fits answer e =
+    ap above (e ∙ asks_is m r inside) ∙ above_is r ∙ sym (asks_is m (allows q es m n r) inside ∙ ap unless_fault (few-octets q es m n r few fits))

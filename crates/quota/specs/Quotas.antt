@@ -2,7 +2,9 @@
 use Rattle.std.specs.Prelude.{ℕ, ◌+◌, ◌≤◌, min, Bool, cond, not, ◌&&◌, List, [], ◌∷◌, length, is_some, Some, Option, ◌==◌, nat_le}
 use Rattle.std.specs.Option.{option_map}
 use Rattle.spool.specs.Entries.{Entry}
-use Rattle.refusals.specs.Refusals.{Notice}
+use Rattle.refusals.specs.Refusals.{Notice, fault}
+use Rattle.refusals.specs.declared.refusal.Cause.{Cause}
+use Rattle.refusals.specs.declared.refusal.Cause.TheVariants.{EntryLimit, OctetLimit}
 use Rattle.refusals.specs.declared.refusal.RoomFault.{RoomFault}
 use Rattle.quota.specs.Shares.{entries_of, octets_of}
 use Rattle.quota.specs.declared.limits.Limits.{Limits}
@@ -31,13 +33,13 @@ abbrev pub raised : Notice → Notice
 raised n = record { number = n.number; values = raised_values n.values }
 
 -- A fault of the layer itself.
-abbrev pub own : ℕ → Option RoomFault
-own cause = Some (record { layer = 0; cause = cause })
+abbrev pub own : Cause → Option RoomFault
+own cause = Some (fault cause)
 
--- The room for one entry of n octets more in a mailbox, among the entries that there are: one entry too many is cause 5,
--- then octets too many cause 6, and then the room below decides.
+-- The room for one entry of n octets more in a mailbox, among the entries that there are: one entry too many is judged
+-- first, then octets too many, and then the room below decides.
 abbrev pub allows : Limits → List Entry → ℕ → ℕ → Option RoomFault → Option RoomFault
-allows q es m n r = cond (nat_le (entries_of m es + 1) q.entries) (cond (nat_le (octets_of m es + n) q.octets) (option_map lifted r) (own 6)) (own 5)
+allows q es m n r = cond (nat_le (entries_of m es + 1) q.entries) (cond (nat_le (octets_of m es + n) q.octets) (option_map lifted r) (own OctetLimit)) (own EntryLimit)
 
 -- No mailbox has more than the limits.
 abbrev pub Kept : Limits → List Entry → Type 0

@@ -2,8 +2,6 @@
 use Rattle.std.specs.Prelude.{ℕ, cond, List, ◌++◌, length, sum_by, count_by, Option, ◌==◌, nat_eq}
 use Rattle.spool.specs.Entries.{Entry}
 use Rattle.spool.specs.Rules.{staged}
-use Rattle.quota.specs.declared.tally.Part.{Part}
-use Rattle.quota.specs.declared.tally.Part.TheVariants.{Held, Staged}
 
 -- What an entry counts for a mailbox: its weight, or nothing where it is for another.
 abbrev pub share : (Entry → ℕ) → ℕ → Entry → ℕ
@@ -17,10 +15,6 @@ entries_of m es = count_by (λ e. nat_eq e.mailbox m) es
 abbrev pub octets_of : ℕ → List Entry → ℕ
 octets_of m es = sum_by (share (λ e. length e.payload) m) es
 
--- A spool has entries in two parts. Both count together.
-abbrev pub part_of : Part → List Entry → Option (List Entry) → List Entry
-part_of Held h l = h
-part_of Staged h l = staged l
-
+-- What is held and what is staged count together.
 abbrev pub both : List Entry → Option (List Entry) → List Entry
 both h l = h ++ staged l

@@ -1,20 +1,21 @@
-ghost use Rattle.std.specs.Prelude.{◌≡◌, min, is_ok, IfOk, MatchResult};
+ghost use Rattle.std.specs.Prelude.{◌≡◌, min, is_ok, MatchResult};
 ghost use Rattle.quota.specs.Quotas.{Kept, allows, lawful, raised};
-ghost use Rattle.quota.specs.Shares.{both};
-ghost use Rattle.refusals.specs.Refusals.{notice, plain};
+ghost use Rattle.quota.specs.Shares.{both, entries_of, octets_of};
+ghost use Rattle.refusals.specs.Refusals.{no_room, notice, plain};
 ghost use Rattle.std.proofs.Common.{rules};
 
 use crate::limits::Limits;
-use crate::tally::{Part, Spare, after_part};
-use refusals::refusal::{Refusal, Rejected, RoomFault};
-use spool::entry::Summary;
+use crate::tally::Share;
+use refusals::refusal::{Cause, Refusal, Rejected, RoomFault};
+use spool::entry::{Part, Summary};
 use spool::interface::Spool;
 
 // A spool that holds each mailbox to limits, over the spool that it owns. What a mailbox has is counted there at each question.
 #[derive(Drop)]
-pub struct Quota<S> {
+pub struct Quota<S: Spool> {
     below: S,
     limits: Limits,
+    ghost kept: { Kept limits (both (S.Spool.held below) (S.Spool.lot below)) },
 }
 
 impl<S: Spool> Quota<S> {
@@ -22,14 +23,11 @@ impl<S: Spool> Quota<S> {
     pub fn build(below: S, entries: usize, octets: usize) -> Result<Quota<S>, Rejected<S>>
         ensures answer { is_ok result ≡ lawful entries octets (S.Spool.held below) (S.Spool.lot below) }
         ensures values { MatchResult result (λ q. (q.below ≡ below) × (q.limits.entries ≡ entries) × (q.limits.octets ≡ octets)) (λ x. (notice x.refusal ≡ plain 14) × (x.given ≡ below)) }
-        ensures within { IfOk result (λ q. S.Spool.within below → S.Spool.within q.below × Kept q.limits (both (S.Spool.held q.below) (S.Spool.lot q.below))) }
     {
-        if entries < 1
-            || entries > 1000
-            || octets < 512
-            || octets > 65536
-            || below.count() > 0
-            || below.lot_is_open()
+        if !((1..=1000).contains(&entries)
+            && (512..=65536).contains(&octets)
+            && below.count(Part::Held) == 0
+            && !below.lot_is_open())
         {
             return Err(Rejected {
                 refusal: Refusal::Unlawful,
@@ -41,6 +39,19 @@ impl<S: Spool> Quota<S> {
             limits: Limits { entries, octets },
         })
     }
+
+    // What a mailbox has below.
+    fn share(&self, mailbox: usize) -> Share
+        ensures entries { result.entries ≡ entries_of mailbox (both (S.Spool.held self.now.below) (S.Spool.lot self.now.below)) }
+        ensures octets { result.octets ≡ octets_of mailbox (both (S.Spool.held self.now.below) (S.Spool.lot self.now.below)) }
+    {
+        Share {
+            entries: 0,
+            octets: 0,
+        }
+        .with_part(&self.below, Part::Held, mailbox)
+        .with_part(&self.below, Part::Staged, mailbox)
+    }
 }
 
 // A refusal from below, as it is seen from one layer above.
@@ -50,7 +61,7 @@ fn lift(refusal: Refusal) -> Refusal
     match refusal {
         Refusal::NoRoom(fault) => Refusal::NoRoom(RoomFault {
             layer: fault.layer.min(8) + 1,
-            cause: fault.cause,
+            ..fault
         }),
         other => other,
     }
@@ -65,26 +76,16 @@ impl<S: Spool> Spool for Quota<S> {
 
     ghost floor = { λ q. min q.limits.octets (S.Spool.floor q.below) };
 
-    ghost within = { λ q. S.Spool.within q.below × Kept q.limits (both (S.Spool.held q.below) (S.Spool.lot q.below)) };
-
     ghost high_floor = { Prim.search rules };
 
     ghost empty_has_room = { Prim.search rules };
 
-    fn count(&self) -> usize {
-        self.below.count()
+    fn count(&self, part: Part) -> usize {
+        self.below.count(part)
     }
 
-    fn entry(&self, at: usize) -> Result<Summary, Refusal> {
-        self.below.entry(at)
-    }
-
-    fn staged_count(&self) -> usize {
-        self.below.staged_count()
-    }
-
-    fn staged_entry(&self, at: usize) -> Result<Summary, Refusal> {
-        self.below.staged_entry(at)
+    fn entry(&self, part: Part, at: usize) -> Result<Summary, Refusal> {
+        self.below.entry(part, at)
     }
 
     fn lot_is_open(&self) -> bool {
@@ -95,22 +96,14 @@ impl<S: Spool> Spool for Quota<S> {
         if mailbox >= 64 {
             return Err(Refusal::NoSuchMailbox);
         }
-        let spare = Spare {
-            entries: self.limits.entries,
-            end: self.limits.octets + 1,
-        };
-        let spare = after_part(spare, &self.below, Part::Held, mailbox);
-        let spare = after_part(spare, &self.below, Part::Staged, mailbox);
-        if spare.entries == 0 {
-            return Err(Refusal::NoRoom(RoomFault { layer: 0, cause: 5 }));
+        let share = self.share(mailbox);
+        if share.entries >= self.limits.entries {
+            return Err(Refusal::from(Cause::EntryLimit));
         }
-        if size >= spare.end {
-            return Err(Refusal::NoRoom(RoomFault { layer: 0, cause: 6 }));
+        if size > self.limits.octets - share.octets {
+            return Err(Refusal::from(Cause::OctetLimit));
         }
-        match self.below.room(mailbox, size) {
-            Ok(()) => Ok(()),
-            Err(refusal) => Err(lift(refusal)),
-        }
+        self.below.room(mailbox, size).map_err(lift)
     }
 
     fn floor(&self) -> usize {

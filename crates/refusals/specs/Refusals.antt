@@ -1,5 +1,7 @@
 -- Every refusal has a number, which is its place in the order of judgement, and the values that it carries.
 use Rattle.std.specs.Prelude.{ℕ, List, [], ◌∷◌, Ok, Err, Result}
+use Rattle.refusals.specs.Causes.{cause_number}
+use Rattle.refusals.specs.declared.refusal.Cause.{Cause}
 use Rattle.refusals.specs.declared.refusal.RoomFault.{RoomFault}
 use Rattle.refusals.specs.declared.refusal.Refusal.{Refusal}
 use Rattle.refusals.specs.declared.refusal.Refusal.TheVariants.{NoSuchSession, AlreadyOpen, NotOpen, BadArea, BadSheet, ShortOutput, NoSuchMailbox, NothingHeld, ShortBuffer, LotOpen, NoLot, NoRoom, NoSuchEntry, Unlawful, BadRow, BadRowMailbox}
@@ -12,9 +14,13 @@ pub record Notice : Type 0 where
 abbrev pub plain : ℕ → Notice
 plain n = record { number = n; values = [] }
 
--- No room is number 12, and carries the fault's layer and cause.
+-- A fault of the spool itself, which was called: no layer lies above it.
+abbrev pub fault : Cause → RoomFault
+fault cause = record { layer = 0; cause = cause }
+
+-- No room is number 12, and carries the fault's layer and its cause's number.
 abbrev pub no_room : RoomFault → Notice
-no_room f = record { number = 12; values = f.layer ∷ f.cause ∷ [] }
+no_room f = record { number = 12; values = f.layer ∷ cause_number f.cause ∷ [] }
 
 abbrev pub notice : Refusal → Notice
 notice NoSuchSession = plain 1

@@ -1,5 +1,6 @@
 -- How a refusal reads to a person.
 use Rattle.std.specs.Prelude.{ℕ, List, ◌++◌, codes, decimal}
+use Rattle.refusals.specs.Causes.{cause_number}
 use Rattle.refusals.specs.declared.refusal.Refusal.{Refusal}
 use Rattle.refusals.specs.declared.refusal.Refusal.TheVariants.{NoSuchSession, AlreadyOpen, NotOpen, BadArea, BadSheet, ShortOutput, NoSuchMailbox, NothingHeld, ShortBuffer, LotOpen, NoLot, NoRoom, NoSuchEntry, Unlawful, BadRow, BadRowMailbox}
 
@@ -15,7 +16,7 @@ sentence NothingHeld = codes "nothing is held for the mailbox"
 sentence ShortBuffer = codes "the buffer is shorter than the payload"
 sentence LotOpen = codes "a lot is open"
 sentence NoLot = codes "no lot is open"
-sentence (NoRoom f) = codes "there is no room: layer " ++ (decimal f.layer ++ (codes ", cause " ++ decimal f.cause))
+sentence (NoRoom f) = codes "there is no room: layer " ++ (decimal f.layer ++ (codes ", cause " ++ decimal (cause_number f.cause)))
 sentence NoSuchEntry = codes "there is no such entry or record"
 sentence Unlawful = codes "the build breaks a limit, or stands on a spool in use"
 sentence BadRow = codes "a directory row lies outside the text or is misspelt"

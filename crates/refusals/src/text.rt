@@ -6,7 +6,8 @@ use crate::refusal::Refusal;
 use std::fmt;
 
 impl Refusal {
-    // The refusal's place in the order of judgement, 1 to 16.
+    // The refusal's place in the order of judgement, 1 to 16. It is told by cases: a case with a fault has no number of its own in
+    // the language, and `u8::from(refusal)` would not say that the octet is a place in an order.
     pub fn number(&self) -> u8
         ensures { result ≡ (notice self.now).number }
     {
@@ -51,9 +52,11 @@ impl fmt::Display for Refusal {
             Refusal::LotOpen => write!(f, "a lot is open"),
             Refusal::NoLot => write!(f, "no lot is open"),
             Refusal::NoRoom(fault) => {
-                let layer = fault.layer;
-                let cause = fault.cause;
-                write!(f, "there is no room: layer {layer}, cause {cause}")
+                write!(
+                    f,
+                    "there is no room: layer {}, cause {}",
+                    fault.layer, fault.cause
+                )
             }
             Refusal::NoSuchEntry => write!(f, "there is no such entry or record"),
             Refusal::Unlawful => write!(f, "the build breaks a limit, or stands on a spool in use"),

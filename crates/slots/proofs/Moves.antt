@@ -1,10 +1,10 @@
 -- Slots move between the rows of entries and the free ones: what that leaves of either list, and how often each slot stands.
-use Rattle.std.proofs.Common.{◌≡◌, ℕ, suc, ◌+◌, ◌-◌, ◌<◌, ◌≤◌, min, Bool, true, false, cond, eqb, ltb, leb, List, [], ◌∷◌, ◌++◌, length, get_or, take, drop, sum_by, sym, ap, ◌∙◌, inl, inr, add-one, arith}
+use Rattle.std.proofs.Common.{◌≡◌, ℕ, ◌+◌, ◌-◌, ◌<◌, min, Bool, true, false, cond, eqb, ltb, leb, List, [], ◌∷◌, ◌++◌, length, get_or, take, drop, sym, ap, ◌∙◌, inl, inr, add-one, arith}
 use Rattle.std.specs.Vec.{with_items}
 use Rattle.std.specs.List.{remove}
 use Rattle.std.proofs.lemmas.List.Edits.{length-remove}
-use Rattle.std.proofs.lemmas.List.{append-nil, drop_all, drop-drop, drop_more, get_or-take, length_push, length-take, length-take-le, with_items_is, take-append-drop, take_more, take-take}
-use Rattle.std.proofs.lemmas.List.Sums.{sum_by-append, sum_by-cons, sum_by_push, sum_by-take-drop}
+use Rattle.std.proofs.lemmas.List.{get_or-take, length_push, length-take, with_items_is, take_more}
+use Rattle.std.proofs.lemmas.List.Sums.{sum_by-remove, sum_by_push}
 use Rattle.std.proofs.lemmas.Bool.{cases_order, cond-true, cond-false, eq-eqb, ne_eqb, lt-ltb, le-ltb, le-leb}
 use Rattle.spool.specs.Lists.{records, appended, remaining}
 use Rattle.spool.proofs.Fronts.{front_is}
@@ -13,30 +13,6 @@ use Rattle.slots.specs.Slots.{once, spares, takes}
 use Rattle.slots.specs.Tables.{slot_count, used_rows}
 use Rattle.slots.specs.declared.row.SlotRow.{SlotRow}
 use Rattle.slots.specs.declared.table.SlotTable.{SlotTable}
-
--- A list is what lies before a place, the record there and what lies behind it.
-pub split_at : {X : Type 0} (xs : List X) (at : ℕ) (x : X) → at < length xs → x ≡ get_or xs at x → xs ≡ take at xs ++ x ∷ drop (suc at) xs
-split_at xs at x l e =
-    sym (take-append-drop at xs) ∙ ap (λ v. take at xs ++ v) (drop_more xs at x l)
-    ∙ ap (λ v. take at xs ++ v ∷ drop (at + 1) xs) (sym e) ∙ ap (λ k. take at xs ++ x ∷ drop k xs) (add-one at)
-
--- A sum over a list gives up the part of a record that is taken out.
-pub sum_by_removed : {X : Type 0} (f : X → ℕ) (xs : List X) (at : ℕ) (x : X) → at < length xs → x ≡ get_or xs at x →
-    sum_by f xs ≡ sum_by f (remove xs at) + f x
-sum_by_removed f xs at x l e =
-    let a = ap (sum_by f) (split_at xs at x l e) in
-    let b = sum_by-append f (take at xs) (x ∷ drop (suc at) xs) in
-    let d = sum_by-cons f x (drop (suc at) xs) in
-    let g = sum_by-append f (take at xs) (drop (suc at) xs) in
-    omega (arith, a, b, d, g)
-
-pub sum_by_removed_le : {X : Type 0} (f : X → ℕ) (xs : List X) (at : ℕ) → sum_by f (remove xs at) ≤ sum_by f xs
-sum_by_removed_le f xs at =
-    let a = sum_by-append f (take at xs) (drop (suc at) xs) in
-    let b = sum_by-take-drop f xs at in
-    let d = sum_by-take-drop f (drop at xs) 1 in
-    let e = ap (sum_by f) (drop-drop 1 at xs ∙ ap (λ k. drop k xs) (add-one at)) in
-    omega (arith, a, b, d, e)
 
 -- What a move keeps: how many slots stand in all, and how often each.
 pub record Moved (us us' : List SlotRow) (fs fs' : List ℕ) : Type 0 where
@@ -57,7 +33,7 @@ moved_out us us' fs fs' at r l e u f =
     record {
       many = omega (arith, ap length u, length-remove us at l, ap length f, length_push fs r.slot);
       each = λ slot.
-          omega (arith, ap (takes slot) u, sum_by_removed (λ (x : SlotRow). cond (eqb x.slot slot) 1 0) us at r l e, ap (spares slot) f, sum_by_push (λ n. cond (eqb n slot) 1 0) fs r.slot);
+          omega (arith, ap (takes slot) u, sum_by-remove (λ (x : SlotRow). cond (eqb x.slot slot) 1 0) us at r l, ap {B = ℕ} (λ (x : SlotRow). cond (eqb x.slot slot) 1 0) e, ap (spares slot) f, sum_by_push (λ n. cond (eqb n slot) 1 0) fs r.slot);
     }
 
 -- One slot more: each of those so far stands once.
@@ -116,9 +92,3 @@ module _ (t : SlotTable) (us : List SlotRow) (fs : List ℕ) (n : ℕ) (m : Move
 -- A row that was read at a place of the memory, as the row of the entry there.
 pub row_at : (t : SlotTable) (at : ℕ) (r : SlotRow) → at < length (used_rows t) → r ≡ get_or t.rows.items at r → r ≡ get_or (used_rows t) at r
 row_at t at r l e = e ∙ sym (get_or-take t.used.count t.rows.items at r (omega (arith, length-take t.used.count t.rows.items)))
-
--- Taking out the last record leaves those before it.
-pub removed_last : {X : Type 0} (xs : List X) (n at : ℕ) → n ≤ length xs → at + 1 ≡ n → remove (take n xs) at ≡ take at xs
-removed_last xs n at l e =
-    ap (λ v. take at (take n xs) ++ v) (drop_all (suc at) (take n xs) (omega (arith, length-take-le n xs l)))
-    ∙ append-nil (take at (take n xs)) ∙ take-take at n xs (omega arith)

@@ -1,12 +1,10 @@
 -- What staging leaves of a slot store.
-use Rattle.std.proofs.Common.{◌≡◌, ℕ, ◌+◌, ◌*◌, ◌<◌, ◌≤◌, cond, eqb, ltb, List, [], ◌∷◌, ◌++◌, map, length, Some, None, Ok, Err, Option, refl, ap, ◌∙◌, inl, inr, arith}
+use Rattle.std.proofs.Common.{◌≡◌, ℕ, ◌+◌, ◌-◌, ◌*◌, ◌<◌, ◌≤◌, cond, eqb, ltb, List, [], ◌∷◌, ◌++◌, map, length, take, drop, None, refl, ap, ◌∙◌, inl, inr, arith}
 use Rattle.std.specs.Vec.{with_items}
-use Rattle.std.proofs.lemmas.List.{length_push, with_items_is}
+use Rattle.std.proofs.lemmas.List.{drop-drop, length-append, length-drop, length_push, length-take-le, with_items_is}
 use Rattle.std.proofs.lemmas.List.Sums.{sum_by_push}
-use Rattle.std.proofs.lemmas.Bool.{cases_Bool, cond-true, cond-false, eq-eqb, le-ltb, lt-ltb, ltb-true}
-use Rattle.refusals.specs.Refusals.{plain}
-use Rattle.spool.specs.Rules.{asks_room, unless_fault}
-use Rattle.refusals.specs.declared.refusal.RoomFault.{RoomFault}
+use Rattle.std.proofs.lemmas.Bool.{cases_Bool, cond-true, cond-false, eq-eqb, le-ltb, ltb-true}
+use borrow.Rule.Slice.PartMut.{put_mid}
 use Rattle.slots.specs.Slots.{overlong, takes}
 use Rattle.slots.specs.Stores.{entries, room_for, view}
 use Rattle.slots.specs.Tables.{slot_count, used_rows}
@@ -28,11 +26,12 @@ fresh t t' r e =
       | inr n ↦ absurd (omega (arith, one, a, b, t'.apart r.slot, cond-false {A = ℕ} (ltb r.slot (slot_count t')) 1 0 n))
     ]
 
--- A question for room that is let through.
-pub room_told : (m : ℕ) (f : Option RoomFault) (x : Unit {0}) → m < 64 → Ok x ≡ asks_room m f → f ≡ None
-room_told m None x l e = refl
-room_told m (Some f) x l e =
-    let z : ◌≡◌ {A = ℕ} 0 1 = cc (e ∙ cond-true (ltb m 64) (unless_fault (Some f)) (Err (plain 7)) (lt-ltb m 64 l)) in absurd (omega arith)
+-- Octets after a payload was copied into their part from `at` on: `ys` is what the part holds then.
+written : (xs ys p : List ℕ) (at : ℕ) → ys ≡ p → put_mid at (at + length p - at) xs ys ≡ overwritten xs at p
+written xs ys p at e =
+    let n : at + length p - at ≡ length p = omega arith in
+    ap (λ v. take at xs ++ (v ++ drop (at + length p - at) (drop at xs))) e ∙ ap (λ k. take at xs ++ (p ++ drop k (drop at xs))) n
+    ∙ ap (λ v. take at xs ++ (p ++ v)) (drop-drop (length p) at xs)
 
 -- A free slot is taken for a payload that there is room for.
 module _ (s : SlotStore) (t' : SlotTable) (slot m : ℕ) (p : List ℕ) (room : room_for s m (length p) ≡ None)
@@ -51,14 +50,31 @@ module _ (s : SlotStore) (t' : SlotTable) (slot m : ℕ) (p : List ℕ) (room : 
       let z : cond (ltb s.size (length p)) 1 0 ≡ 0 = cond-false {A = ℕ} (ltb s.size (length p)) 1 0 (le-ltb s.size (length p) (has_room s m (length p) room).0) in
       omega (arith, z, ap (overlong s.size) rows, sum_by_push f (used_rows s.table) (new_row slot m p), s.short)
 
-  -- and the payload is written into it: the octets were lent, as `xs`, and came back as `ws`
-  module _ (xs ws : List ℕ) (lent : xs ≡ s.octets.items) (back : length ws ≡ s.octets.len) (wrote : ws ≡ overwritten xs (slot * s.size) p) where
+  -- and the payload is copied into it, from the octets that were lent as `xs`
+  module _ (xs ys : List ℕ) (lent : xs ≡ s.octets.items) (copied : ys ≡ p) where
+    abbrev pub ws : List ℕ
+    ws = put_mid (slot * s.size) (slot * s.size + length p - slot * s.size) xs ys
+
+    back : length ws ≡ s.octets.len
+    back =
+        ap length (written xs ys p (slot * s.size) copied)
+        ∙ omega (
+          arith,
+          length-append (take (slot * s.size) xs) (p ++ drop (slot * s.size + length p) xs),
+          length-append p (drop (slot * s.size + length p) xs),
+          length-take-le (slot * s.size) xs (omega (arith, payload_ends, ap length lent)),
+          length-drop (slot * s.size + length p) xs,
+          payload_ends,
+          ap length lent,
+          s.octets.ok.0,
+        )
+
     pub octets_kept : length (with_items s.octets ws).items ≡ length s.octets.items
     octets_kept = ap length (with_items_is s.octets ws back) ∙ back ∙ s.octets.ok.0
 
     pub entries_more : map (view (with_items s.octets ws).items s.size) (used_rows t') ≡ entries s ++ (record { mailbox = m; payload = p }) ∷ []
     entries_more =
-        ap (λ v. map (view v s.size) (used_rows t')) (with_items_is s.octets ws back ∙ wrote ∙ ap (λ v. overwritten v (slot * s.size) p) lent)
+        ap (λ v. map (view v s.size) (used_rows t')) (with_items_is s.octets ws back ∙ written xs ys p (slot * s.size) copied ∙ ap (λ v. overwritten v (slot * s.size) p) lent)
         ∙ ap (map (view (overwritten s.octets.items (slot * s.size) p) s.size)) rows
         ∙ views_more s.octets.items s.size slot p (has_room s m (length p) room).0 payload_ends (used_rows s.table) m
         (fresh s.table t' (new_row slot m p) rows).0 s.short

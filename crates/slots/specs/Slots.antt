@@ -1,5 +1,6 @@
 -- Slots, by number from 0: which are taken by rows, which are free, and how much of a slot a row takes up.
 use Rattle.std.specs.Prelude.{ℕ, cond, ltb, List, count_by, nat_eq, nat_lt}
+use Rattle.spool.specs.declared.entry.Summary.{Summary}
 use Rattle.slots.specs.declared.row.SlotRow.{SlotRow}
 
 -- How many of the rows have a slot.
@@ -17,3 +18,7 @@ once slot count = cond (nat_lt slot count) 1 0
 -- How many of the rows are longer than a slot.
 abbrev pub overlong : ℕ → List SlotRow → ℕ
 overlong size rs = count_by (λ r. ltb size r.length) rs
+
+-- What a row tells of its entry.
+abbrev pub told_by : SlotRow → Summary
+told_by r = record { mailbox = r.mailbox; length = r.length }

@@ -1,6 +1,10 @@
 -- What a slot store means: the entries held, the lot, room, and which memories make one.
 use Rattle.std.specs.Prelude.{◌≡◌, ℕ, ◌*◌, ◌/◌, ◌%◌, ◌≤◌, cond, List, map, length, take, drop, Some, None, vec_items, Option, nat_le, nat_lt}
 use Rattle.spool.specs.Entries.{Entry}
+use Rattle.spool.specs.Lots.{filed_in, held_in, lot_in, part_in}
+use Rattle.refusals.specs.Refusals.{fault}
+use Rattle.spool.specs.declared.entry.Part.{Part}
+use Rattle.refusals.specs.declared.refusal.Cause.TheVariants.{LongPayload, NoSlot}
 use Rattle.refusals.specs.declared.refusal.RoomFault.{RoomFault}
 use Rattle.slots.specs.Tables.{slot_count, used_rows}
 use Rattle.slots.specs.declared.row.SlotRow.{SlotRow}
@@ -22,22 +26,26 @@ view octets size r = record { mailbox = r.mailbox; payload = take r.length (drop
 abbrev pub entries : SlotStore → List Entry
 entries s = map (view (vec_items s.octets) s.size) (used_rows s.table)
 
+-- Of these, what is held, and the lot of what is staged; how many are held, and the rows of each part.
 abbrev pub held_of : SlotStore → List Entry
-held_of s = take s.filed (entries s)
+held_of s = held_in s.lot (entries s)
 
 abbrev pub lot_of : SlotStore → Option (List Entry)
-lot_of s = cond s.opened (Some (drop s.filed (entries s))) None
+lot_of s = lot_in s.lot (entries s)
+
+abbrev pub filed_of : SlotStore → ℕ
+filed_of s = filed_in s.lot (length (used_rows s.table))
+
+abbrev pub part_rows : Part → SlotStore → List SlotRow
+part_rows part s = part_in part s.lot (used_rows s.table)
 
 -- How many slots it has.
 abbrev pub slots_of : SlotStore → ℕ
 slots_of s = slot_count s.table
 
-abbrev pub fault : ℕ → RoomFault
-fault cause = record { layer = 0; cause = cause }
-
--- Room needs a payload within a slot, else cause 1, and then fewer entries than slots, else cause 2.
+-- Room needs a payload within a slot and, where it is, fewer entries than slots.
 abbrev pub room_among : ℕ → ℕ → ℕ → ℕ → Option RoomFault
-room_among size slots used n = cond (nat_le n size) (cond (nat_lt used slots) None (Some (fault 2))) (Some (fault 1))
+room_among size slots used n = cond (nat_le n size) (cond (nat_lt used slots) None (Some (fault NoSlot))) (Some (fault LongPayload))
 
 abbrev pub room_for : SlotStore → ℕ → ℕ → Option RoomFault
 room_for s m n = room_among s.size (slots_of s) (length (entries s)) n

@@ -1,36 +1,13 @@
 -- The entries that rows stand for, and what a payload that is written into a slot leaves of them.
-use Rattle.std.specs.Prelude.{◌≡◌, ℕ, zero, suc, ◌+◌, ◌-◌, ◌*◌, ◌<◌, ◌≤◌, cond, List, [], ◌∷◌, ◌++◌, map, length, take, drop, Some, ◌==◌, ◌≢◌, nat_lt, slice_index_or, refl}
+use Rattle.std.specs.Prelude.{◌≡◌, ℕ, suc, ◌+◌, ◌-◌, ◌*◌, ◌<◌, ◌≤◌, cond, List, [], ◌∷◌, ◌++◌, map, length, take, drop, ◌==◌, ◌≢◌, nat_lt, refl}
 use Rattle.std.proofs.Common.{sym, ap, ◌∙◌, inl, inr, add-mul, mul-le-mul_right, one-mul, arith}
-use Rattle.std.specs.List.{slice_get, remove}
-use Rattle.std.specs.Option.{option_map}
+use Rattle.std.specs.List.{remove}
 use Rattle.std.proofs.lemmas.List.{append_assoc, drop_at, drop-drop, drop-map, drop-take, length-append, length-take-le, map-append, map_push, take-append-le, take_at, take-map, take-take}
 use Rattle.std.proofs.lemmas.List.Sums.{sum_by-cons}
 use Rattle.std.proofs.lemmas.Bool.{cases_Bool, cases_order, cond-true, eq-eqb, ltb-false}
 use Rattle.slots.specs.Slots.{overlong, takes}
 use Rattle.slots.specs.Stores.{view}
 use Rattle.slots.specs.declared.row.SlotRow.{SlotRow}
-
--- The record at a place.
-pub nth-map : {X Y : Type 0} (f : X → Y) (xs : List X) (at : ℕ) → slice_get (map f xs) at ≡ option_map f (slice_get xs at)
-nth-map f [] at = refl
-nth-map f (x ∷ xs) zero = refl
-nth-map f (x ∷ xs) (suc at) = nth-map f xs at
-
-pub nth-take : {X : Type 0} (xs : List X) (n at : ℕ) → at < n → slice_get (take n xs) at ≡ slice_get xs at
-nth-take xs zero at l = absurd (omega arith)
-nth-take [] (suc n) at l = refl
-nth-take (x ∷ xs) (suc n) zero l = refl
-nth-take (x ∷ xs) (suc n) (suc at) l = nth-take xs n at (omega arith)
-
-pub nth_drop : {X : Type 0} (xs : List X) (n at : ℕ) → slice_get (drop n xs) at ≡ slice_get xs (n + at)
-nth_drop xs zero at = ap (slice_get xs) (let z : at ≡ 0 + at = omega arith in z)
-nth_drop [] (suc n) at = refl
-nth_drop (x ∷ xs) (suc n) at = nth_drop xs n at ∙ ap (slice_get (x ∷ xs)) (let z : suc (n + at) ≡ suc n + at = omega arith in z)
-
-pub nth_is : {X : Type 0} (xs : List X) (at : ℕ) (x : X) → slice_get xs at ≡ Some x → (at < length xs) × (x ≡ slice_index_or xs at x)
-nth_is [] at x e = let z : ◌≡◌ {A = ℕ} 0 1 = cc in absurd (omega arith)
-nth_is (y ∷ xs) zero x e = (omega arith, cc)
-nth_is (y ∷ xs) (suc at) x e = let r = nth_is xs at x e in (omega (arith, r.0), r.1)
 
 -- Taking a record out of a list takes its image out of the image.
 pub map_removed : {X Y : Type 0} (f : X → Y) (xs : List X) (at : ℕ) → map f (remove xs at) ≡ remove (map f xs) at

@@ -12,6 +12,7 @@ pub mod turnover;
 pub struct SlotTable {
     rows: Vec<SlotRow>,
     used: OrderedList,
+    // the free slots, in fixed memory
     numbers: [usize; 32],
     free: OrderedList,
     ghost few: { length rows.items ≤ 32 },

@@ -1,7 +1,8 @@
 -- Lists at the front of a memory: what their operations answer and leave, over the records.
 use Rattle.std.proofs.Common.{◌≡◌, ℕ, zero, suc, ◌+◌, ◌-◌, ◌<◌, ◌≤◌, min, leb, List, [], ◌∷◌, ◌++◌, length, get_or, take, drop, set, Some, None, Ok, Err, Option, Result, sym, refl, ap, ◌∙◌, inl, inr, arith}
-use Rattle.std.specs.List.{slice_get}
-use Rattle.std.proofs.lemmas.List.{length-take, length-take-le, length-drop, length-append, take_all, take-take, get_or-take, get_or-drop, get_or_append_left, get_or-append_right, same_lists}
+use Rattle.std.specs.List.{slice_get, copy_within}
+use Rattle.std.proofs.lemmas.List.Edits.{take-paste}
+use Rattle.std.proofs.lemmas.List.{drop-take, length-take, length-take-le, length-drop, take_all, take-take}
 use Rattle.std.proofs.lemmas.Bool.{cases_lt, cond-true, cond-false, le-leb, lt-leb}
 use Rattle.spool.specs.Lists.{appends, appended, placed, removes, remaining, present}
 use Rattle.refusals.specs.Refusals.{Notice, plain}
@@ -57,29 +58,16 @@ module _ {X : Type 0} (xs : List X) (c n at by : ℕ) (e : n ≡ min c (length x
   pub remove_same : n < at + by → take c xs ≡ remaining (take c xs) at by
   remove_same h = sym (cond-false (leb (at + by) (length (take c xs))) _ _ (lt-leb _ _ (omega (arith, front_length xs c n e))))
 
--- What a gap leaves once it is closed, place by place.
-pub gap_closed : {X : Type 0} (xs zs : List X) (at by end : ℕ) → at + by ≤ end → end ≤ length xs → length zs ≡ length xs →
-    ((k : ℕ) (d : X) → k < at → get_or zs k d ≡ get_or xs k d) →
-    ((k : ℕ) (d : X) → at ≤ k → k < end - by → get_or zs k d ≡ get_or xs (k + by) d) →
+-- What a gap leaves once it is closed.
+pub gap_closed : {X : Type 0} (xs zs : List X) (at by end : ℕ) → at + by ≤ end → end ≤ length xs → zs ≡ copy_within xs (at + by) end at →
     take (end - by) zs ≡ take at xs ++ drop (at + by) (take end xs)
-gap_closed {X} xs zs at by end h w l low moved =
-    let la : length (take at xs) ≡ at = length-take-le at xs (omega arith) in
-    let le : length (take end xs) ≡ end = length-take-le end xs w in
-    let lz : length (take (end - by) zs) ≡ end - by = length-take-le (end - by) zs (omega arith) in
-    same_lists _ _
-    (simp length-append (omega (arith, la, lz, le, length-drop (at + by) (take end xs))))
-    (λ k d m.
-    let b : k < end - by = omega (arith, lz) in
-    elim (cases_lt k at) [
-      | inl j ↦ get_or-take (end - by) zs k d b ∙ low k d j ∙ sym (get_or_append_left (take at xs) _ d k (omega (arith, la)) ∙ get_or-take at xs k d j)
-      | inr j ↦
-          let p : at + by + (k - at) ≡ k + by = omega arith in
-          get_or-take (end - by) zs k d b ∙ moved k d j b
-          ∙ sym (get_or-append_right (take at xs) (drop (at + by) (take end xs)) at k d la j
-          ∙ get_or-drop (at + by) (take end xs) (k - at) d
-          ∙ get_or-take end xs (at + by + (k - at)) d (omega arith)
-          ∙ ap (λ v. get_or xs v d) p)
-    ])
+gap_closed xs zs at by end h w e =
+    let n : ℕ = end - (at + by) in
+    let a : end - by ≡ at + n = omega arith in
+    let b : at + by + n ≡ end = omega arith in
+    ap (λ k. take k zs) a ∙ ap (take (at + n)) e
+    ∙ take-paste xs at (drop (at + by) xs) n (omega arith) (omega (arith, length-drop (at + by) xs))
+    ∙ ap (λ v. take at xs ++ v) (sym (drop-take (at + by) n xs) ∙ ap (λ k. drop (at + by) (take k xs)) b)
 
 -- The record at a place of a list.
 pub nth_front : {X : Type 0} (xs : List X) (c at : ℕ) (x : X) → at < c → at < length xs → x ≡ get_or xs at x → slice_get (take c xs) at ≡ Some x
@@ -102,6 +90,10 @@ nth_none (x ∷ xs) (suc at) h = omega (arith, nth_none xs at h)
 pub present_some : {X : Type 0} (o : Option X) (x : X) → Ok x ≡ present o → o ≡ Some x
 present_some None x h = let z : ◌≡◌ {A = ℕ} 0 1 = cc in absurd (omega arith)
 present_some (Some y) x h = ap (λ v. Some v) (let e : y ≡ x = cc in e)
+
+pub absent_says : {X : Type 0} (o : Option X) (n : Notice) → Err n ≡ present o → (o ≡ None) × (n ≡ plain 13)
+absent_says None n h = (refl, cc)
+absent_says (Some y) n h = let z : ◌≡◌ {A = ℕ} 0 1 = cc in absurd (omega arith)
 
 pub present_none : {X : Type 0} (o : Option X) (n : Notice) → Err n ≡ present o → o ≡ None
 present_none None n h = refl

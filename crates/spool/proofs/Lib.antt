@@ -1,4 +1,5 @@
 pub mod Fronts
+pub mod Lots
 pub mod Owned
 pub mod Places
 pub mod Told

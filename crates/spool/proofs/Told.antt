@@ -5,12 +5,19 @@ use Rattle.std.specs.Option.{option_map}
 use Rattle.std.proofs.lemmas.Bool.{cases_lt, cond-true, cond-false, lt-ltb, le-ltb, le-leb, lt-leb}
 use Rattle.spool.specs.Entries.{Entry}
 use Rattle.spool.specs.Lists.{present}
-use Rattle.refusals.specs.Refusals.{Notice, plain, no_room}
+use Rattle.std.specs.Result.{IsErr, IsErrAnd}
+use Rattle.refusals.specs.Refusals.{Notice, notice, plain, no_room, told}
+use Rattle.refusals.specs.declared.refusal.Refusal.{Refusal}
 use Rattle.spool.specs.Rules.{stages, stages_into, grown, extended, unless_fault, asks_room, removes, remains, summary, tells, copies_of, copies, copied, copied_of}
 use Rattle.spool.specs.declared.entry.Summary.{Summary}
 use Rattle.refusals.specs.declared.refusal.RoomFault.{RoomFault}
 use Rattle.spool.proofs.Fronts.{nth_absent}
 use Rattle.spool.proofs.Places.{nth-within}
+
+-- An answer that hands a refusal on tells of it.
+pub told_err : {T : Type 0} (r : Result T Refusal) (e : Refusal) → IsErr r → IsErrAnd r (λ x. x ≡ e) → told r ≡ Err (notice e)
+told_err (Ok x) e h k = absurd k
+told_err (Err x) e h k = ap (λ v. Err (notice v)) k
 
 -- The entry at a place.
 pub tells_past : (es : List Entry) (at : ℕ) → length es ≤ at → Err (plain 13) ≡ tells es at

@@ -1,3 +1,5 @@
 pub mod Entries
 pub mod Lists
+pub mod Lots
+pub mod Meanings
 pub mod Rules

@@ -5,18 +5,25 @@ use Rattle.std.specs.Option.{option_map}
 use Rattle.spool.specs.Entries.{Entry}
 use Rattle.spool.specs.Lists.{present}
 use Rattle.refusals.specs.Refusals.{Notice, plain, no_room}
+use Rattle.spool.specs.declared.entry.Part.{Part}
+use Rattle.spool.specs.declared.entry.Part.TheVariants.{Held, Staged}
 use Rattle.spool.specs.declared.entry.Summary.{Summary}
 use Rattle.refusals.specs.declared.refusal.RoomFault.{RoomFault}
 
 -- A lot is none, or the entries staged in it. Without a lot nothing is staged.
-abbrev pub staged : Option (List Entry) → List Entry
+abbrev pub staged : {X : Type 0} → Option (List X) → List X
 staged None = []
 staged (Some es) = es
 
+-- What is held and what is staged are the parts of a spool that have entries.
+abbrev pub part_of : {X : Type 0} → Part → List X → Option (List X) → List X
+part_of Held h l = h
+part_of Staged h l = staged l
+
 -- Opening a lot starts an empty one, refused (10) while one is open.
-abbrev pub opens : Option (List Entry) → Result (Unit {0}) Notice
+abbrev pub opens : {L : Type 0} → Option L → Result (Unit {0}) Notice
 opens None = Ok tt
-opens (Some es) = Err (plain 10)
+opens (Some l) = Err (plain 10)
 
 abbrev pub opened : Option (List Entry) → Option (List Entry)
 opened None = Some []

@@ -1,11 +1,11 @@
 ghost use Rattle.std.specs.Prelude.{◌≡◌, ℕ, ◌<◌, ◌≤◌, false, List, [], ◌++◌, length, is_some, is_ok, Some, None, Option};
 ghost use Rattle.spool.specs.Entries.{Entry};
 ghost use Rattle.refusals.specs.Refusals.{told};
-ghost use Rattle.spool.specs.Rules.{asks_room, copied, copies, extended, opened, opens, remains, removes, staged, stages, tells};
+ghost use Rattle.spool.specs.Rules.{asks_room, copied, copies, extended, opened, opens, part_of, remains, removes, staged, stages, tells};
 ghost use Rattle.refusals.specs.declared.refusal.RoomFault.{RoomFault};
 ghost use Rattle.std.specs.List.{slice_get};
 
-use crate::entry::Summary;
+use crate::entry::{Part, Summary};
 use refusals::refusal::Refusal;
 
 // A store of entries, each a mailbox and a payload. New entries are staged in a lot, which is committed or withdrawn whole.
@@ -22,24 +22,13 @@ pub trait Spool {
     // the length up to which an empty spool has room for every mailbox
     ghost floor: { Self → ℕ };
 
-    // that it holds and stages no more than its own limits let in: true of what a lawful build gives, and kept by every call
-    ghost within: { Self → Type 0 };
+    // How many entries a part has.
+    fn count(&self, part: Part) -> usize
+        ensures { result ≡ length (part_of part (held self.now) (lot self.now)) };
 
-    // How many entries are held.
-    fn count(&self) -> usize
-        ensures { result ≡ length (held self.now) };
-
-    // The mailbox and the length of a held entry.
-    fn entry(&self, at: usize) -> Result<Summary, Refusal>
-        ensures { told result ≡ tells (held self.now) at };
-
-    // How many entries are staged.
-    fn staged_count(&self) -> usize
-        ensures { result ≡ length (staged (lot self.now)) };
-
-    // The mailbox and the length of a staged entry.
-    fn staged_entry(&self, at: usize) -> Result<Summary, Refusal>
-        ensures { told result ≡ tells (staged (lot self.now)) at };
+    // The mailbox and the length of an entry of a part.
+    fn entry(&self, part: Part, at: usize) -> Result<Summary, Refusal>
+        ensures { told result ≡ tells (part_of part (held self.now) (lot self.now)) at };
 
     // Whether a lot is open.
     fn lot_is_open(&self) -> bool
@@ -64,8 +53,7 @@ pub trait Spool {
         ensures answer { told result ≡ opens (lot self.old) }
         ensures held { held self.new ≡ held self.old }
         ensures lot { lot self.new ≡ opened (lot self.old) }
-        ensures floor { floor self.new ≡ floor self.old }
-        ensures within { within self.old → within self.new };
+        ensures floor { floor self.new ≡ floor self.old };
 
     // Adds an entry to the lot.
     fn stage(&mut self, mailbox: usize, payload: &[u8]) -> Result<(), Refusal>
@@ -73,8 +61,7 @@ pub trait Spool {
         ensures answer { told result ≡ stages mailbox (lot self.old) (room self.old mailbox (length payload.now)) }
         ensures held { held self.new ≡ held self.old }
         ensures lot { lot self.new ≡ extended (lot self.old) (room self.old mailbox (length payload.now)) (record { mailbox = mailbox; payload = payload.now }) }
-        ensures floor { floor self.new ≡ floor self.old }
-        ensures within { within self.old → within self.new };
+        ensures floor { floor self.new ≡ floor self.old };
 
     // Moves what is staged behind what is held, and ends the lot. Answers how many entries were staged.
     fn commit(&mut self) -> usize
@@ -82,8 +69,7 @@ pub trait Spool {
         ensures answer { result ≡ length (staged (lot self.old)) }
         ensures held { held self.new ≡ held self.old ++ staged (lot self.old) }
         ensures lot { lot self.new ≡ None }
-        ensures floor { floor self.new ≡ floor self.old }
-        ensures within { within self.old → within self.new };
+        ensures floor { floor self.new ≡ floor self.old };
 
     // Ends the lot without what is staged. Answers how many entries that were.
     fn withdraw(&mut self) -> usize
@@ -91,8 +77,7 @@ pub trait Spool {
         ensures answer { result ≡ length (staged (lot self.old)) }
         ensures held { held self.new ≡ held self.old }
         ensures lot { lot self.new ≡ None }
-        ensures floor { floor self.new ≡ floor self.old }
-        ensures within { within self.old → within self.new };
+        ensures floor { floor self.new ≡ floor self.old };
 
     // Takes a held entry out, the others in order; afterwards there is room for its mailbox and length.
     fn remove(&mut self, at: usize) -> Result<(), Refusal>
@@ -101,8 +86,7 @@ pub trait Spool {
         ensures held { held self.new ≡ remains (lot self.old) (held self.old) at }
         ensures lot { lot self.new ≡ lot self.old }
         ensures floor { floor self.new ≡ floor self.old }
-        ensures within { within self.old → within self.new }
-        ensures room { within self.old → lot self.old ≡ None → (e : Entry) → slice_get (held self.old) at ≡ Some e → room self.new e.mailbox (length e.payload) ≡ None };
+        ensures room { lot self.old ≡ None → (e : Entry) → slice_get (held self.old) at ≡ Some e → room self.new e.mailbox (length e.payload) ≡ None };
 
     ghost high_floor: { (s : Self) → 512 ≤ floor s };
 

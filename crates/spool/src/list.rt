@@ -23,17 +23,24 @@ impl OrderedList {
     pub fn len<T: Copy>(&self, memory: &[T]) -> usize
         ensures { result ≡ length (records_of self.now memory.now) }
     {
-        memory.len().min(self.count)
+        self.front(memory).len()
+    }
+
+    // The list's records, which lie at the front of a memory.
+    fn front<T: Copy>(self, memory: &[T]) -> &[T]
+        ensures { result.now ≡ records_of self memory.now }
+    {
+        &memory[0..self.count.min(memory.len())]
     }
 
     // The record at a place.
     pub fn get<T: Copy>(&self, memory: &[T], at: usize) -> Result<T, Refusal>
         ensures { told result ≡ present (slice_get (records_of self.now memory.now) at) }
     {
-        if at >= self.count || at >= memory.len() {
-            return Err(Refusal::NoSuchEntry);
-        }
-        Ok(memory[at])
+        self.front(memory)
+            .get(at)
+            .copied()
+            .ok_or(Refusal::NoSuchEntry)
     }
 
     // Adds records at the end.
@@ -53,7 +60,8 @@ impl OrderedList {
         Ok(())
     }
 
-    // Adds a record at the end.
+    // Adds a record at the end. It is not `extend` by a slice of one, which would need a premise on a
+    // record's size.
     pub fn append<T: Copy>(&mut self, memory: &mut [T], item: T) -> Result<(), Refusal>
         ensures answer { told result ≡ appends (length memory.old) (records_of self.old memory.old) (item ∷ []) }
         ensures after { records_of self.new memory.new ≡ appended (length memory.old) (records_of self.old memory.old) (item ∷ []) }
@@ -89,7 +97,7 @@ impl OrderedList {
         if by > count - at {
             return Err(Refusal::NoSuchEntry);
         }
-        close_gap(memory, at, by, count);
+        memory.copy_within(at + by..count, at);
         self.count = count - by;
         Ok(())
     }
@@ -116,16 +124,5 @@ impl OrderedList {
         ensures { self.new.count ≡ 0 }
     {
         self.count = 0;
-    }
-}
-
-// Moves what lies from `at + by` up to `end` down to `at`.
-fn close_gap<T: Copy>(memory: &mut [T], at: usize, by: usize, end: usize)
-    requires fits { at + by ≤ end }
-    requires within { end ≤ length memory.old }
-    ensures { take (end - by) memory.new ≡ take at memory.old ++ drop (at + by) (take end memory.old) }
-{
-    for i in at..end - by {
-        memory[i] = memory[i + by];
     }
 }

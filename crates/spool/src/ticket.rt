@@ -18,7 +18,6 @@ pub fn open<S: Spool>(spool: &mut S) -> Result<Ticket, Refusal>
     ensures held { S.Spool.held spool.new ≡ S.Spool.held spool.old }
     ensures lot { S.Spool.lot spool.new ≡ opened (S.Spool.lot spool.old) }
     ensures floor { S.Spool.floor spool.new ≡ S.Spool.floor spool.old }
-    ensures within { S.Spool.within spool.old → S.Spool.within spool.new }
 {
     spool.open_lot()?;
     Ok(Ticket { seal: () })
@@ -36,7 +35,6 @@ pub fn stage<S: Spool>(
     ensures held { S.Spool.held spool.new ≡ S.Spool.held spool.old }
     ensures lot { S.Spool.lot spool.new ≡ extended (S.Spool.lot spool.old) (S.Spool.room spool.old mailbox (length payload.now)) (record { mailbox = mailbox; payload = payload.now }) }
     ensures floor { S.Spool.floor spool.new ≡ S.Spool.floor spool.old }
-    ensures within { S.Spool.within spool.old → S.Spool.within spool.new }
 {
     spool.stage(mailbox, payload)
 }
@@ -48,20 +46,18 @@ pub fn commit<S: Spool>(spool: &mut S, ticket: Ticket) -> usize
     ensures held { S.Spool.held spool.new ≡ S.Spool.held spool.old ++ staged (S.Spool.lot spool.old) }
     ensures lot { S.Spool.lot spool.new ≡ None }
     ensures floor { S.Spool.floor spool.new ≡ S.Spool.floor spool.old }
-    ensures within { S.Spool.within spool.old → S.Spool.within spool.new }
 {
     let Ticket { seal: _ } = ticket;
     spool.commit()
 }
 
-// Ends the lot without what is staged.
+// Ends the lot without what is staged. It is a call of its own beside `commit`, so that each end reads as what it does.
 pub fn withdraw<S: Spool>(spool: &mut S, ticket: Ticket) -> usize
     ensures idle { S.Spool.lot spool.old ≡ None → spool.new ≡ spool.old }
     ensures answer { result ≡ length (staged (S.Spool.lot spool.old)) }
     ensures held { S.Spool.held spool.new ≡ S.Spool.held spool.old }
     ensures lot { S.Spool.lot spool.new ≡ None }
     ensures floor { S.Spool.floor spool.new ≡ S.Spool.floor spool.old }
-    ensures within { S.Spool.within spool.old → S.Spool.within spool.new }
 {
     let Ticket { seal: _ } = ticket;
     spool.withdraw()

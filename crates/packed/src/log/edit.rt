@@ -1,15 +1,19 @@
-ghost use Rattle.std.specs.Prelude.{◌≡◌, ℕ, ◌+◌, ◌<◌, ◌≤◌, [], ◌++◌, length, take, drop, None, vec_len, MatchResult, slice_index_or};
-ghost use Rattle.packed.specs.Meaning.{LawfulLog, floor_of, held_of, lot_of, room_for};
+ghost use Rattle.std.specs.Prelude.{◌≡◌, ℕ, ◌+◌, ◌<◌, ◌≤◌, [], ◌++◌, length, map, take, drop, None, Some, vec_len, MatchResult};
+ghost use Rattle.std.specs.List.{slice_get};
+ghost use Rattle.packed.specs.Meaning.{LawfulLog, floor_of, held_of, lot_of, part_rows, room_for, rows_of};
 ghost use Rattle.packed.specs.Packing.{lowered, total};
-ghost use Rattle.refusals.specs.Refusals.{notice, plain};
+ghost use Rattle.refusals.specs.Refusals.{notice, plain, told};
+ghost use Rattle.spool.specs.Lists.{present};
+ghost use Rattle.spool.specs.declared.entry.Part.TheVariants.{Held};
 ghost use Rattle.packed.specs.Logs.{free_room, empty_free};
 
 use super::PackedLog;
 use crate::row::LogRow;
-use refusals::refusal::{Refusal, Rejected, RoomFault};
-use spool::entry::Summary;
+use refusals::refusal::{Cause, Refusal, Rejected};
+use spool::entry::{Part, Summary};
 use spool::interface::Spool;
 use spool::list::OrderedList;
+use spool::lot::Lot;
 
 // An empty log over 512 to 65,536 octets and 1 to 256 rows; refused, and the memory handed back, where it has more or less.
 pub fn build(
@@ -18,10 +22,7 @@ pub fn build(
 ) -> Result<PackedLog, Rejected<(Vec<u8>, Vec<LogRow>)>>
     ensures { MatchResult result (λ s. LawfulLog (vec_len octets) (vec_len rows) × (held_of s ≡ []) × (lot_of s ≡ None) × (floor_of s ≡ vec_len octets)) (λ e. (notice e.refusal ≡ plain 14) × (e.given ≡ (octets, rows)) × (LawfulLog (vec_len octets) (vec_len rows) → ⊥)) }
 {
-    let lawful = octets.len() >= 512
-        && octets.len() <= 65536
-        && rows.len() >= 1
-        && rows.len() <= 256;
+    let lawful = (512..=65536).contains(&octets.len()) && (1..=256).contains(&rows.len());
     if !lawful {
         return Err(Rejected {
             refusal: Refusal::Unlawful,
@@ -33,45 +34,35 @@ pub fn build(
         rows,
         packed: OrderedList::new(),
         entries: OrderedList::new(),
-        filed: 0,
-        opened: false,
+        lot: Lot::none(),
     })
 }
 
-// Lowers the offsets of the rows from `from` up to `to`.
-fn lower(rows: &mut [LogRow], from: usize, to: usize, by: usize)
-    requires ordered { from ≤ to }
-    requires within { to ≤ length rows.old }
-    requires high { (k : ℕ) (d : LogRow) → from ≤ k → k < to → by ≤ (slice_index_or rows.old k d).offset }
-    ensures below { take from rows.new ≡ take from rows.old }
-    ensures after { (k : ℕ) (d : LogRow) → from ≤ k → k < to → slice_index_or rows.new k d ≡ lowered by (slice_index_or rows.old k d) }
+// Lowers the offsets of rows.
+fn lower(rows: &mut [LogRow], by: usize)
+    requires { (at : ℕ) (r : LogRow) → slice_get rows.old at ≡ Some r → by ≤ r.offset }
+    ensures { rows.new ≡ map (lowered by) rows.old }
 {
-    for i in from..to {
-        let row = rows[i];
-        rows[i] = LogRow {
-            offset: row.offset - by,
-            length: row.length,
-            mailbox: row.mailbox,
-        };
+    for row in rows.iter_mut() {
+        row.offset -= by;
     }
 }
 
-// Copies `by` octets from `at` on to the front of a buffer.
-fn copy_out(octets: &[u8], at: usize, by: usize, buffer: &mut [u8])
-    requires { (at + by ≤ length octets.now) × (by ≤ length buffer.old) }
-    ensures { buffer.new ≡ take by (drop at octets.now) ++ drop by buffer.old }
-{
-    buffer[0..by].copy_from_slice(&octets[at..at + by]);
-}
-
 impl PackedLog {
+    // The rows of the entries.
+    fn entry_rows(&self) -> &[LogRow]
+        ensures { result.now ≡ rows_of self.now }
+    {
+        &self.rows[..self.entries.len(self.rows.as_slice())]
+    }
+
     // Where the staged payloads begin, which is where the held ones end.
     fn lot_start(&self) -> usize
-        ensures { result ≡ total (take self.now.filed self.now.rows.items) }
+        ensures { result ≡ total (part_rows Held self.now) }
     {
-        match self.entries.get(self.rows.as_slice(), self.filed) {
-            Ok(row) => row.offset,
-            Err(_) => self.packed.len(self.octets.as_slice()),
+        match self.lot.part(self.entry_rows(), Part::Staged) {
+            [row, ..] => row.offset,
+            [] => self.packed.len(self.octets.as_slice()),
         }
     }
 }
@@ -85,44 +76,22 @@ impl Spool for PackedLog {
 
     ghost floor = { floor_of };
 
-    ghost within = { λ _. Unit {0} };
-
     ghost high_floor = { λ s. s.octets_low };
 
     ghost empty_has_room = { λ s h l m n k f. free_room s m n (empty_free s h l n f) };
 
-    fn count(&self) -> usize {
-        self.filed
+    fn count(&self, part: Part) -> usize {
+        self.lot.part(self.entry_rows(), part).len()
     }
 
-    fn entry(&self, at: usize) -> Result<Summary, Refusal> {
-        if at >= self.filed {
-            return Err(Refusal::NoSuchEntry);
-        }
-        let held = self.rows[at];
-        Ok(Summary {
-            mailbox: held.mailbox,
-            length: held.length,
-        })
-    }
-
-    fn staged_count(&self) -> usize {
-        self.entries.len(self.rows.as_slice()) - self.filed
-    }
-
-    fn staged_entry(&self, at: usize) -> Result<Summary, Refusal> {
-        if at >= self.staged_count() {
-            return Err(Refusal::NoSuchEntry);
-        }
-        let row = self.rows[self.filed + at];
-        Ok(Summary {
-            mailbox: row.mailbox,
-            length: row.length,
-        })
+    fn entry(&self, part: Part, at: usize) -> Result<Summary, Refusal> {
+        self.lot
+            .entry(self.entry_rows(), part, at)
+            .map(Summary::from)
     }
 
     fn lot_is_open(&self) -> bool {
-        self.opened
+        self.lot.is_open()
     }
 
     fn room(&self, mailbox: usize, size: usize) -> Result<(), Refusal> {
@@ -130,10 +99,10 @@ impl Spool for PackedLog {
             return Err(Refusal::NoSuchMailbox);
         }
         if size > self.octets.len() - self.packed.len(self.octets.as_slice()) {
-            return Err(Refusal::NoRoom(RoomFault { layer: 0, cause: 3 }));
+            return Err(Refusal::from(Cause::NoOctets));
         }
         if self.entries.len(self.rows.as_slice()) >= self.rows.len() {
-            return Err(Refusal::NoRoom(RoomFault { layer: 0, cause: 4 }));
+            return Err(Refusal::from(Cause::NoRow));
         }
         Ok(())
     }
@@ -143,30 +112,24 @@ impl Spool for PackedLog {
     }
 
     fn copy(&self, at: usize, buffer: &mut [u8]) -> Result<usize, Refusal> {
-        if at >= self.filed {
-            return Err(Refusal::NoSuchEntry);
-        }
-        let row = self.rows[at];
+        let row = self.lot.entry(self.entry_rows(), Part::Held, at)?;
         if row.length > buffer.len() {
             return Err(Refusal::ShortBuffer);
         }
-        copy_out(self.octets.as_slice(), row.offset, row.length, buffer);
+        let payload = &self.octets[row.offset..row.offset + row.length];
+        buffer[..row.length].copy_from_slice(payload);
         Ok(row.length)
     }
 
     fn open_lot(&mut self) -> Result<(), Refusal> {
-        if self.opened {
-            return Err(Refusal::LotOpen);
-        }
-        self.opened = true;
-        Ok(())
+        self.lot.open(self.entries.len(self.rows.as_slice()))
     }
 
     fn stage(&mut self, mailbox: usize, payload: &[u8]) -> Result<(), Refusal> {
         if mailbox > 63 {
             return Err(Refusal::NoSuchMailbox);
         }
-        if !self.opened {
+        if !self.lot.is_open() {
             return Err(Refusal::NoLot);
         }
         self.room(mailbox, payload.len())?;
@@ -181,42 +144,33 @@ impl Spool for PackedLog {
     }
 
     fn commit(&mut self) -> usize {
-        if !self.opened {
-            return 0;
-        }
-        let staged = self.staged_count();
-        self.filed += staged;
-        self.opened = false;
+        let staged = self.count(Part::Staged);
+        let _ = self.lot.end();
         staged
     }
 
     fn withdraw(&mut self) -> usize {
-        if !self.opened {
-            return 0;
-        }
-        let staged = self.staged_count();
+        let staged = self.count(Part::Staged);
         let start = self.lot_start();
+        let Some(filed) = self.lot.end() else {
+            return 0;
+        };
         self.packed.truncate(start);
-        self.entries.truncate(self.filed);
-        self.opened = false;
+        self.entries.truncate(filed);
         staged
     }
 
     fn remove(&mut self, at: usize) -> Result<(), Refusal> {
-        if self.opened {
+        if self.lot.is_open() {
             return Err(Refusal::LotOpen);
         }
-        if at >= self.filed {
-            return Err(Refusal::NoSuchEntry);
-        }
-        let row = self.rows[at];
-        let filed = self.filed;
+        let row = self.entries.get(self.rows.as_slice(), at)?;
+        let end = self.entries.len(self.rows.as_slice());
+        lower(&mut self.rows[at + 1..end], row.length);
         let _ = self
             .packed
             .remove_run(self.octets.as_mut_slice(), row.offset, row.length);
         let _ = self.entries.remove(self.rows.as_mut_slice(), at);
-        lower(self.rows.as_mut_slice(), at, filed - 1, row.length);
-        self.filed = filed - 1;
         Ok(())
     }
 }

@@ -1,12 +1,9 @@
 ghost use Rattle.std.specs.Prelude.{◌≡◌, ◌<◌, ◌≤◌, [], ◌∷◌, ◌++◌, length, take};
 ghost use Rattle.slots.specs.Tables.{slot_count, used_rows};
-ghost use Rattle.spool.specs.Lists.{present};
-ghost use Rattle.refusals.specs.Refusals.{told};
-ghost use Rattle.std.specs.List.{slice_get, remove};
+ghost use Rattle.std.specs.List.{remove};
 
 use super::SlotTable;
 use crate::row::SlotRow;
-use refusals::refusal::Refusal;
 use spool::list::OrderedList;
 
 impl SlotTable {
@@ -18,6 +15,7 @@ impl SlotTable {
     {
         let mut numbers = [0; 32];
         let mut free = OrderedList::new();
+        // The slots' numbers themselves are what is appended.
         for slot in 0..rows.len() {
             let _ = free.append(&mut numbers, slot);
         }
@@ -43,11 +41,11 @@ impl SlotTable {
         self.used.len(self.rows.as_slice())
     }
 
-    // The row of an entry.
-    pub(crate) fn row(&self, at: usize) -> Result<SlotRow, Refusal>
-        ensures { told result ≡ present (slice_get (used_rows self.now) at) }
+    // The rows of the entries.
+    pub(crate) fn rows(&self) -> &[SlotRow]
+        ensures { result.now ≡ used_rows self.now }
     {
-        self.used.get(self.rows.as_slice(), at)
+        &self.rows[..self.len()]
     }
 
     // Takes a free slot for a new entry, whose row comes behind the others, and answers it.
@@ -86,6 +84,7 @@ impl SlotTable {
         ensures slots { slot_count self.new ≡ slot_count self.old }
     {
         let end = self.len();
+        // From the last on, so that no row moves.
         for at in (len..end).rev() {
             self.release(at);
         }

@@ -1,14 +1,7 @@
-use Rattle.std.proofs.Common.{◌≡◌, sym, ap, ◌∙◌, arith}
-use Rattle.std.proofs.lemmas.List.{drop_all}
-use Rattle.spool.proofs.Told.{past_end, told-entry}
-use Rattle.filing.specs.Collecting.{earliest}
+use Rattle.std.proofs.Common.{◌≡◌, sym, ap, ◌∙◌}
+use Rattle.spool.proofs.Told.{told-entry}
 use Rattle.filing.proofs.Finding.{past-earliest, past-without, here_earliest, here_without}
 use Rattle.filing.proofs.collect.find.Goals as goal
-
-pub unreachable-requires : goal.unreachable-requires
-unreachable-requires g c =
-    let h = g.S.Spool.held c.args.spool.now in
-    omega (arith, past_end h c.loop-at.at _ c.in_default.ensures, c.count-at-end.ensures)
 
 pub returns-then-summary-mailbox : goal.returns-then-summary-mailbox
 returns-then-summary-mailbox g c =
@@ -31,8 +24,3 @@ loop-at-preserved g c =
       c.loop-at.invariant.0 ∙ past-earliest c.args.mailbox h c.loop-at.at t.0 t.1.0 ne,
       c.loop-at.invariant.1 ∙ past-without c.args.mailbox h c.loop-at.at t.0 t.1.0 ne,
     )
-
-pub returns : goal.returns
-returns g c =
-    let h = g.S.Spool.held c.args.spool.now in
-    c.loop-at.invariant.0 ∙ ap (earliest c.args.mailbox) (drop_all c.loop-at.at h (omega (arith, c.count-at-end.ensures)))

@@ -1,21 +1,8 @@
-use Rattle.std.proofs.Common.{min, ap}
-use Rattle.quota.proofs.Keeps.{kept_committed}
+use Rattle.quota.proofs.Keeps.{kept_committed, same_layer}
 use Rattle.quota.proofs.layer.QuotaSpool.commit.Goals as goal
 
-pub returns : goal.returns
-returns g c =
-    let q = c.args.self.now in
-    let b' = c.commit.new.self in
-    let s = c.commit.ensures in
-    let h = g.S.Spool.held q.below in
-    let l = g.S.Spool.lot q.below in
-    let h' = g.S.Spool.held b' in
-    let l' = g.S.Spool.lot b' in
-    record {
-      idle = λ k. ap (λ v. record { below = v; limits = q.limits }) (s.idle k);
-      answer = s.answer;
-      held = s.held;
-      lot = s.lot;
-      floor = ap (min q.limits.octets) s.floor;
-      within = λ k. (s.within k.0, kept_committed q.limits h h' l l' s.held s.lot k.1);
-    }
+pub invariant_of-self : goal.invariant_of-self
+invariant_of-self g c = record { kept = kept_committed c.args.self.now c.commit.new.self c.commit.ensures.held c.commit.ensures.lot }
+
+pub returns-clause-idle : goal.returns-clause-idle
+returns-clause-idle g c = λ k. same_layer c.args.self.now _ _ (c.commit.ensures.idle k)

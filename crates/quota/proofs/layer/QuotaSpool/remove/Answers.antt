@@ -1,22 +1,13 @@
-use Rattle.std.proofs.Common.{min, length, ap}
-use Rattle.quota.proofs.Keeps.{kept_removed, room_again}
+use Rattle.quota.proofs.Keeps.{kept_removed, room_again, same_layer}
 use Rattle.quota.proofs.layer.QuotaSpool.remove.Goals as goal
 
-pub returns : goal.returns
-returns g c =
-    let q = c.args.self.now in
-    let b' = c.remove.new.self in
+pub invariant_of-self : goal.invariant_of-self
+invariant_of-self g c = record { kept = kept_removed c.args.self.now c.remove.new.self _ c.remove.ensures.held c.remove.ensures.lot }
+
+pub returns-clause-refused : goal.returns-clause-refused
+returns-clause-refused g c = λ k. same_layer c.args.self.now _ _ (c.remove.ensures.refused k)
+
+pub returns-clause-room : goal.returns-clause-room
+returns-clause-room g c =
     let s = c.remove.ensures in
-    let h = g.S.Spool.held q.below in
-    let l = g.S.Spool.lot q.below in
-    let h' = g.S.Spool.held b' in
-    let l' = g.S.Spool.lot b' in
-    record {
-      refused = λ k. ap (λ v. record { below = v; limits = q.limits }) (s.refused k);
-      answer = s.answer;
-      held = s.held;
-      lot = s.lot;
-      floor = ap (min q.limits.octets) s.floor;
-      within = λ k. (s.within k.0, kept_removed q.limits h h' l l' c.args.at s.held s.lot k.1);
-      room = λ k o e i. room_again q.limits h h' l l' c.args.at e (g.S.Spool.room b' e.mailbox (length e.payload)) s.held s.lot o i k.1 (s.room k.0 o e i);
-    }
+    λ o e i. room_again c.args.self.now c.remove.new.self c.args.at e s.held s.lot o i (s.room o e i)

@@ -1,21 +1,8 @@
-use Rattle.std.proofs.Common.{min, ap}
-use Rattle.quota.proofs.Keeps.{kept_withdrawn}
+use Rattle.quota.proofs.Keeps.{kept_withdrawn, same_layer}
 use Rattle.quota.proofs.layer.QuotaSpool.withdraw.Goals as goal
 
-pub returns : goal.returns
-returns g c =
-    let q = c.args.self.now in
-    let b' = c.withdraw.new.self in
-    let s = c.withdraw.ensures in
-    let h = g.S.Spool.held q.below in
-    let l = g.S.Spool.lot q.below in
-    let h' = g.S.Spool.held b' in
-    let l' = g.S.Spool.lot b' in
-    record {
-      idle = λ k. ap (λ v. record { below = v; limits = q.limits }) (s.idle k);
-      answer = s.answer;
-      held = s.held;
-      lot = s.lot;
-      floor = ap (min q.limits.octets) s.floor;
-      within = λ k. (s.within k.0, kept_withdrawn q.limits h h' l l' s.held s.lot k.1);
-    }
+pub invariant_of-self : goal.invariant_of-self
+invariant_of-self g c = record { kept = kept_withdrawn c.args.self.now c.withdraw.new.self c.withdraw.ensures.held c.withdraw.ensures.lot }
+
+pub returns-clause-idle : goal.returns-clause-idle
+returns-clause-idle g c = λ k. same_layer c.args.self.now _ _ (c.withdraw.ensures.idle k)

@@ -25,13 +25,3 @@ invariant_of-self c =
       whole = whole_kept t us' fs' (length (with_items t.rows rs).items) m k;
       apart = apart_kept t us' fs' (length (with_items t.rows rs).items) m k;
     }
-
-pub returns : goal.returns
-returns c =
-    let t = c.args.self.now in
-    let ys = c.as_mut_slice.result.now in
-    let rs = c.append.new.memory in
-    record {
-      rows = rows_in t ys rs c.append.new.self c.as_mut_slice.ensures.value (omega arith) _ c.requires c.append.ensures.after;
-      slots = slots_kept t ys rs c.append.new.self c.as_mut_slice.ensures.value (omega arith);
-    }

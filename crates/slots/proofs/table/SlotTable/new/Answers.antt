@@ -1,8 +1,8 @@
-use Rattle.std.proofs.Common.{◌≡◌, cond, eqb, [], length, take, ap, arith}
+use Rattle.std.proofs.Common.{cond, eqb, length, ap, arith}
 use Rattle.std.proofs.lemmas.List.{length_push}
 use Rattle.std.proofs.lemmas.List.Sums.{sum_by_push}
 use Rattle.spool.specs.Lists.{records}
-use Rattle.slots.specs.Slots.{once, spares, takes}
+use Rattle.slots.specs.Slots.{spares}
 use Rattle.slots.proofs.Moves.{append_in, once_more}
 use Rattle.slots.proofs.table.SlotTable.new.Goals as goal
 
@@ -15,14 +15,3 @@ loop-slot-preserved c =
       omega (arith, ap length e, length_push fs n),
       (λ slot. omega (arith, ap (spares slot) e, sum_by_push (λ x. cond (eqb x slot) 1 0) fs n, c.loop-slot.invariant.2 slot, once_more slot n)),
     )
-
-pub invariant_of-result : goal.invariant_of-result
-invariant_of-result c =
-    let rows = c.args.rows.items in
-    let e : take c.new.result.count rows ≡ [] = ap (λ k. take k rows) c.new.ensures in
-    let n : c.loop-slot.slot ≡ length rows = omega arith in record {
-      few = c.requires;
-      wide = c.loop-slot.invariant.0;
-      whole = omega (arith, ap length e);
-      apart = (λ slot. omega (arith, ap (takes slot) e, c.loop-slot.invariant.2 slot, ap (once slot) n));
-    }

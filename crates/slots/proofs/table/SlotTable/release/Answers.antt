@@ -25,12 +25,7 @@ invariant_of-self c =
       apart = apart_kept t us' fs' (length (with_items t.rows rs).items) m k;
     }
 
-pub returns : goal.returns
-returns c =
+pub returns-clause-rows : goal.returns-clause-rows
+returns-clause-rows c =
     let t = c.args.self.now in
-    let ys = c.as_mut_slice.result.now in
-    let rs = c.remove.new.memory in
-    record {
-      rows = rows_out t ys rs c.remove.new.self c.as_mut_slice.ensures.value (omega arith) c.args.at c.requires c.remove.ensures.after;
-      slots = slots_kept t ys rs c.remove.new.self c.as_mut_slice.ensures.value (omega arith);
-    }
+    rows_out t c.as_mut_slice.result.now c.remove.new.memory c.remove.new.self c.as_mut_slice.ensures.value (omega arith) c.args.at c.requires c.remove.ensures.after

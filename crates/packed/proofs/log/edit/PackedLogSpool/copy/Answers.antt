@@ -1,51 +1,58 @@
-use Rattle.std.proofs.Common.{◌≤◌, ◌++◌, length, take, drop, Ok, sym, ap, ◌∙◌, arith}
-use Rattle.spool.proofs.Told.{copies_past, copied_past, copies_short, copied_short, copies_done, copied_done}
-use Rattle.packed.specs.Meaning.{held_of}
-use Rattle.packed.specs.Cuts.{entry_at}
-use Rattle.packed.specs.Logs.{held_length, known, held_nth}
+use Rattle.std.proofs.Common.{◌≡◌, ◌+◌, ◌-◌, ◌++◌, take, drop, length, ap, ◌∙◌, arith}
+use Rattle.spool.specs.declared.entry.Part.TheVariants.{Held}
+use Rattle.spool.proofs.Lots.{absent_answer, absent_buffer, asked, done_answer, done_buffer, found, short_answer, short_buffer}
+use Rattle.spool.proofs.Told.{told_err}
+use Rattle.packed.specs.Meaning.{entries_of, rows_of}
+use Rattle.packed.specs.Logs.{entries_by_rows, entry_of, known}
 use Rattle.packed.proofs.log.edit.PackedLogSpool.copy.Goals as goal
 
-pub returns-then-at-self : goal.returns-then-at-self
-returns-then-at-self c =
+pub returns-in_err-row-clause-answer : goal.returns-in_err-row-clause-answer
+returns-in_err-row-clause-answer c =
     let s = c.args.self.now in
-    record {
-      answer = copies_past (held_of s) c.args.at c.args.buffer.now (omega (arith, held_length s));
-      buffer = copied_past (held_of s) c.args.at c.args.buffer.now (omega (arith, held_length s));
-    }
+    told_err c.from_residual.result c.in_err-row.field-0.0 c.from_residual.ensures.0 c.from_residual.ensures.1
+    ∙ absent_answer (entry_of s) s.lot (entries_of s) (rows_of s) (entries_by_rows s) c.args.at c.args.buffer.now _
+    (c.in_err-row.ensures ∙ asked Held s.lot c.args.at c.entry_rows.result.now (rows_of s) c.entry_rows.ensures)
 
-pub returns-then-row-buffer : goal.returns-then-row-buffer
-returns-then-row-buffer c =
+pub returns-in_err-row-clause-buffer : goal.returns-in_err-row-clause-buffer
+returns-in_err-row-clause-buffer c =
     let s = c.args.self.now in
-    let at = c.args.at in
-    let r = c.index-row.result.now in
-    let b = c.args.buffer.now in
-    let k = known s at r (omega (arith, s.filed_fit)) c.index-row.ensures in
-    let e = entry_at s.octets.items r.offset r in
-    record {
-      answer = copies_short (held_of s) at b e (held_nth s at c.if-at-self.false ∙ k.entry_at_lem) (omega (arith, k.long));
-      buffer = copied_short (held_of s) at b e (held_nth s at c.if-at-self.false ∙ k.entry_at_lem) (omega (arith, k.long));
-    }
+    absent_buffer (entry_of s) s.lot (entries_of s) (rows_of s) (entries_by_rows s) c.args.at c.args.buffer.now _
+    (c.in_err-row.ensures ∙ asked Held s.lot c.args.at c.entry_rows.result.now (rows_of s) c.entry_rows.ensures)
 
-pub copy_out-requires : goal.copy_out-requires
-copy_out-requires c =
+pub returns-then-row-buffer-clause-answer : goal.returns-then-row-buffer-clause-answer
+returns-then-row-buffer-clause-answer c =
     let s = c.args.self.now in
-    let k = known s c.args.at c.index-row.result.now (omega (arith, s.filed_fit)) c.index-row.ensures in
-    (omega (arith, k.ends_in, s.octets_fit, ap length c.as_slice.ensures.value), c.if-row-buffer.false)
+    let n = found Held s.lot c.args.at c.entry_rows.result.now (rows_of s) c.entry_rows.ensures c.in_ok-row.row c.in_ok-row.ensures in
+    short_answer (entry_of s) s.lot (entries_of s) (rows_of s) (entries_by_rows s) c.args.at c.args.buffer.now c.in_ok-row.row n c.in_ok-row.row.length (known Held s c.args.at c.in_ok-row.row n).long c.if-row-buffer.true
 
-pub returns : goal.returns
-returns c =
+pub returns-then-row-buffer-clause-buffer : goal.returns-then-row-buffer-clause-buffer
+returns-then-row-buffer-clause-buffer c =
     let s = c.args.self.now in
-    let at = c.args.at in
-    let r = c.index-row.result.now in
-    let b = c.args.buffer.now in
-    let k = known s at r (omega (arith, s.filed_fit)) c.index-row.ensures in
-    let e = entry_at s.octets.items r.offset r in
-    let n = held_nth s at c.if-at-self.false ∙ k.entry_at_lem in
-    let f : length e.payload ≤ length b = omega (arith, k.long, c.if-row-buffer.false) in
-    record {
-      answer = ap (λ v. Ok v) (sym k.long) ∙ copies_done (held_of s) at b e n f;
-      buffer = c.copy_out.ensures
-          ∙ ap (λ v. take r.length (drop r.offset v) ++ drop r.length b) c.as_slice.ensures.value
-          ∙ ap (λ v. e.payload ++ drop v b) (sym k.long)
-          ∙ copied_done (held_of s) at b e n f;
-    }
+    let n = found Held s.lot c.args.at c.entry_rows.result.now (rows_of s) c.entry_rows.ensures c.in_ok-row.row c.in_ok-row.ensures in
+    short_buffer (entry_of s) s.lot (entries_of s) (rows_of s) (entries_by_rows s) c.args.at c.args.buffer.now c.in_ok-row.row n c.in_ok-row.row.length (known Held s c.args.at c.in_ok-row.row n).long c.if-row-buffer.true
+
+pub overflow_add-payload : goal.overflow_add-payload
+overflow_add-payload c =
+    let s = c.args.self.now in
+    omega (arith, (known Held s c.args.at c.in_ok-row.row (found Held s.lot c.args.at c.entry_rows.result.now (rows_of s) c.entry_rows.ensures c.in_ok-row.row c.in_ok-row.ensures)).ends_in, s.octets_fit, s.octets_high)
+
+pub slice_bounds-payload-end : goal.slice_bounds-payload-end
+slice_bounds-payload-end c =
+    let s = c.args.self.now in
+    omega (arith, (known Held s c.args.at c.in_ok-row.row (found Held s.lot c.args.at c.entry_rows.result.now (rows_of s) c.entry_rows.ensures c.in_ok-row.row c.in_ok-row.ensures)).ends_in, s.octets_fit, ap length c.deref.ensures.value)
+
+pub returns-clause-answer : goal.returns-clause-answer
+returns-clause-answer c =
+    let s = c.args.self.now in
+    let n = found Held s.lot c.args.at c.entry_rows.result.now (rows_of s) c.entry_rows.ensures c.in_ok-row.row c.in_ok-row.ensures in
+    done_answer (entry_of s) s.lot (entries_of s) (rows_of s) (entries_by_rows s) c.args.at c.args.buffer.now c.in_ok-row.row n c.in_ok-row.row.length (known Held s c.args.at c.in_ok-row.row n).long c.if-row-buffer.false
+
+pub returns-clause-buffer : goal.returns-clause-buffer
+returns-clause-buffer c =
+    let s = c.args.self.now in
+    let n = found Held s.lot c.args.at c.entry_rows.result.now (rows_of s) c.entry_rows.ensures c.in_ok-row.row c.in_ok-row.ensures in
+    let o = c.in_ok-row.row.offset in
+    let l = c.in_ok-row.row.length in
+    let k : o + l - o ≡ l = omega arith in
+    ap (λ v. v ++ drop l c.args.buffer.now) (c.copy_from_slice.ensures.after ∙ ap (λ n. take n (drop o c.deref.result.now)) k ∙ ap (λ v. take l (drop o v)) c.deref.ensures.value)
+    ∙ done_buffer (entry_of s) s.lot (entries_of s) (rows_of s) (entries_by_rows s) c.args.at c.args.buffer.now c.in_ok-row.row n l (known Held s c.args.at c.in_ok-row.row n).long c.if-row-buffer.false

@@ -1,15 +1,15 @@
-use Rattle.std.proofs.Common.{arith}
-use Rattle.spool.proofs.Told.{tells_past}
-use Rattle.packed.specs.Meaning.{held_of}
-use Rattle.packed.specs.Logs.{held_length, known, held_nth, row_told}
+use Rattle.std.proofs.Common.{sym, ap, ◌∙◌}
+use Rattle.spool.proofs.Lots.{asked, entry_told}
+use Rattle.packed.specs.Meaning.{entries_of, rows_of}
+use Rattle.packed.specs.Packing.{told_by}
+use Rattle.packed.specs.Logs.{entries_by_rows, entry_of, known}
 use Rattle.packed.proofs.log.edit.PackedLogSpool.entry.Goals as goal
-
-pub returns-then-at-self : goal.returns-then-at-self
-returns-then-at-self c = tells_past (held_of c.args.self.now) c.args.at (omega (arith, held_length c.args.self.now))
 
 pub returns : goal.returns
 returns c =
     let s = c.args.self.now in
+    let part = c.args.part in
     let at = c.args.at in
-    let r = c.index-held.result.now in
-    row_told s (held_of s) at at r (known s at r (omega (arith, s.filed_fit)) c.index-held.ensures) (held_nth s at c.if-at-self.false)
+    entry_told (entry_of s) part s.lot (entries_of s) (rows_of s) (entries_by_rows s) at told_by
+    (λ r n. ap (λ w. record { mailbox = r.mailbox; length = w }) (sym (known part s at r n).long))
+    c.entry.result c.map.result (c.entry.ensures ∙ asked part s.lot at c.entry_rows.result.now (rows_of s) c.entry_rows.ensures) c.map.ensures.cases

@@ -1,20 +1,18 @@
-use Rattle.std.proofs.Common.{Some, sym, refl, ap, ◌∙◌, arith}
-use Rattle.std.proofs.lemmas.List.{drop_all}
-use Rattle.std.proofs.lemmas.Bool.{true≢false, cond-false}
-use Rattle.spool.specs.Rules.{opens, opened}
+use Rattle.std.proofs.Common.{◌≡◌, Some, length, take, ap, ◌∙◌}
+use Rattle.spool.specs.Lots.{filed_in}
+use Rattle.spool.proofs.Lots.{held_opened, lot_opened}
 use Rattle.packed.specs.Meaning.{entries_of}
-use Rattle.packed.specs.Logs.{entries-length}
+use Rattle.packed.specs.Logs.{entries-length, rows-length}
 use Rattle.packed.proofs.log.edit.PackedLogSpool.open_lot.Goals as goal
+use Rattle.packed.proofs.log.edit.PackedLogSpool.open_lot.Goals.{After-open}
 
-pub returns : goal.returns
-returns c =
+begun : (c : After-open) → c.open.new.self.held ≡ Some (filed_in c.args.self.now.lot c.args.self.now.entries.count)
+begun c =
     let s = c.args.self.now in
-    record {
-      refused = λ h. absurd (true≢false h);
-      answer = sym (ap opens (cond-false s.opened _ _ c.if-self.false));
-      held = refl;
-      lot = ap (λ v. Some v) (drop_all s.filed (entries_of s) (omega (arith, entries-length s, s.closed c.if-self.false)))
-          ∙ sym (ap opened (cond-false s.opened _ _ c.if-self.false));
-      floor = refl;
-      within = λ _. tt;
-    }
+    c.open.ensures.after ∙ ap (λ n. Some (filed_in s.lot n)) (c.len.ensures ∙ ap (λ v. length (take s.entries.count v)) c.as_slice.ensures.value ∙ rows-length s)
+
+pub returns-clause-held : goal.returns-clause-held
+returns-clause-held c = let s = c.args.self.now in held_opened s.lot (entries_of s) s.entries.count (entries-length s) c.open.new.self (begun (goal.at.returns-clause-held c).After-open)
+
+pub returns-clause-lot : goal.returns-clause-lot
+returns-clause-lot c = let s = c.args.self.now in lot_opened s.lot c.open.new.self (entries_of s) s.entries.count (entries-length s) (begun (goal.at.returns-clause-lot c).After-open)

@@ -1,12 +1,14 @@
-use Rattle.std.proofs.Common.{◌≡◌, ◌≤◌, true, false, [], ◌∷◌, ◌++◌, length, take, drop, Some, sym, refl, ap, ◌∙◌, arith}
+use Rattle.std.proofs.Common.{[], ◌∷◌, ◌++◌, length, refl, sym, ap, ◌∙◌, arith}
+use Rattle.std.specs.Option.{unwrap_or}
 use Rattle.std.specs.Vec.{with_items}
-use Rattle.std.proofs.lemmas.List.{length-append, take-append-le, drop-append-le}
-use Rattle.std.proofs.lemmas.Bool.{true≢false, cond-true}
+use Rattle.std.proofs.lemmas.List.{length-append}
 use Rattle.spool.specs.Entries.{Entry}
 use Rattle.spool.proofs.Fronts.{count_is}
 use Rattle.spool.proofs.Owned as owned
-use Rattle.spool.proofs.Told.{room_had, stages_done, extended_done}
-use Rattle.packed.specs.Meaning.{entries_of, lot_of, room_for}
+use Rattle.spool.proofs.Told.{room_had}
+use Rattle.spool.proofs.Lots.{filed_some, held_longer, lot_extended}
+use Rattle.spool.specs.Lots.{held_in, lot_in}
+use Rattle.packed.specs.Meaning.{entries_of, room_for}
 use Rattle.packed.specs.declared.row.LogRow.{LogRow}
 use Rattle.packed.specs.Logs.{entries-length, room_free}
 use Rattle.packed.proofs.Steps.{Keeps, staging}
@@ -28,41 +30,36 @@ kept c =
     (owned.extended s.rows s.entries c.append.new.self c.as_mut_slice-2.result.now c.append.new.memory c.append.result c.as_mut_slice-2.ensures.value (omega arith) s.rows_fit
     (row ∷ []) (omega (arith, f.row)) c.append.ensures.answer c.append.ensures.after c.append.ensures.count)
 
-pub invariant_of-self : goal.invariant_of-self
-invariant_of-self c =
+pub invariant_of-self-2 : goal.invariant_of-self-2
+invariant_of-self-2 c =
     let s = c.args.self.now in
     let m = c.args.mailbox in
     let p = c.args.payload.now in
-    let k = kept (goal.at.invariant_of-self c).After-append in record {
+    let k = kept (goal.at.invariant_of-self-2 c).After-append in record {
       octets_low = omega (arith, s.octets_low, k.octets_same);
       octets_high = omega (arith, s.octets_high, k.octets_same);
       rows_low = omega (arith, s.rows_low, k.rows_same);
       rows_high = omega (arith, s.rows_high, k.rows_same);
       octets_fit = k.octets_fit;
       rows_fit = k.rows_fit;
-      filed_fit = omega (arith, s.filed_fit, k.more, length-append (entries_of s) (record { mailbox = m; payload = p } ∷ []), entries-length s);
-      closed = (λ h. let z : true ≡ false = sym c.if-not-self.false ∙ h in absurd (true≢false z));
+      filed_fit = omega (arith, ap (λ v. unwrap_or v c.append.new.self.count) (filed_some s.lot s.entries.count (sym c.if-not-is_open.ensures)), s.filed_fit, k.more, length-append (entries_of s) (record { mailbox = m; payload = p } ∷ []), entries-length s);
       no_gaps = k.no_gaps;
       no_rest = k.no_rest;
     }
 
-pub returns : goal.returns
-returns c =
+pub returns-clause-held : goal.returns-clause-held
+returns-clause-held c =
+    let s = c.args.self.now in
+    let e : Entry = record { mailbox = c.args.mailbox; payload = c.args.payload.now } in
+    ap (held_in s.lot) (kept (goal.at.returns-clause-held c).After-append).all
+    ∙ held_longer s.lot (entries_of s) s.entries.count (entries-length s) (e ∷ []) (sym c.if-not-is_open.ensures) s.filed_fit
+
+pub returns-clause-lot : goal.returns-clause-lot
+returns-clause-lot c =
     let s = c.args.self.now in
     let m = c.args.mailbox in
     let p = c.args.payload.now in
-    let k = kept (goal.at.returns c).After-append in
-    let o : lot_of s ≡ Some (drop s.filed (entries_of s)) = cond-true s.opened _ _ c.if-not-self.false in
     let e : Entry = record { mailbox = m; payload = p } in
     let g = room_had m _ c.in_ok-room.ensures in
-    let w : s.filed ≤ length (entries_of s) = omega (arith, entries-length s, s.filed_fit) in
-    record {
-      refused = λ h. absurd (true≢false h);
-      answer = stages_done e (lot_of s) (room_for s m (length p)) (drop s.filed (entries_of s)) g.0 o g.1;
-      held = ap (take s.filed) k.all ∙ take-append-le s.filed (entries_of s) (e ∷ []) w;
-      lot = cond-true s.opened _ _ c.if-not-self.false
-          ∙ ap (λ v. Some v) (ap (drop s.filed) k.all ∙ drop-append-le s.filed (entries_of s) (e ∷ []) w)
-          ∙ extended_done e (lot_of s) (room_for s m (length p)) (drop s.filed (entries_of s)) g.0 o g.1;
-      floor = k.octets_same;
-      within = λ _. tt;
-    }
+    ap (lot_in s.lot) (kept (goal.at.returns-clause-lot c).After-append).all
+    ∙ lot_extended s.lot (entries_of s) s.entries.count e (room_for s m (length p)) (entries-length s) (sym c.if-not-is_open.ensures) s.filed_fit g.0 g.1

@@ -1,74 +1,64 @@
-use Rattle.std.proofs.Common.{◌≡◌, ◌*◌, ◌++◌, length, take, drop, Some, None, Ok, Err, sym, ap, ◌∙◌, arith}
-use Rattle.std.specs.List.{slice_get}
-use Rattle.std.specs.Option.{option_map}
-use Rattle.std.proofs.lemmas.Result.{err_from_is_err_and}
-use Rattle.refusals.specs.Refusals.{notice, told}
-use Rattle.spool.specs.Rules.{copied_of, copies_of}
-use Rattle.spool.proofs.Told.{copied_done, copied_past, copied_short, copies_done, copies_past, copies_short}
-use Rattle.slots.specs.Stores.{held_of, view}
+use Rattle.std.proofs.Common.{◌≡◌, ◌+◌, ◌-◌, ◌*◌, ◌++◌, take, drop, length, refl, ap, ◌∙◌, arith}
+use Rattle.spool.specs.declared.entry.Part.TheVariants.{Held}
+use Rattle.spool.proofs.Lots.{absent_answer, absent_buffer, asked, done_answer, done_buffer, found, short_answer, short_buffer}
+use Rattle.spool.proofs.Told.{told_err}
+use Rattle.slots.specs.Stores.{entries, view}
 use Rattle.slots.specs.Tables.{used_rows}
-use Rattle.slots.specs.Holdings.{entry_at_lem, held_at, held_length, lies, present_none, present_some}
+use Rattle.slots.specs.Holdings.{lies_in}
 use Rattle.slots.proofs.store.filing.SlotStoreSpool.copy.Goals as goal
 
-pub returns-then-at-self : goal.returns-then-at-self
-returns-then-at-self c =
+pub returns-in_err-row-clause-answer : goal.returns-in_err-row-clause-answer
+returns-in_err-row-clause-answer c =
     let s = c.args.self.now in
-    record {
-      answer = copies_past (held_of s) c.args.at c.args.buffer.now (omega (arith, held_length s, c.if-at-self.true));
-      buffer = copied_past (held_of s) c.args.at c.args.buffer.now (omega (arith, held_length s, c.if-at-self.true));
-    }
+    told_err c.from_residual.result c.in_err-row.field-0.0 c.from_residual.ensures.0 c.from_residual.ensures.1
+    ∙ absent_answer (view s.octets.items s.size) s.lot (entries s) (used_rows s.table) refl c.args.at c.args.buffer.now _
+    (c.in_err-row.ensures ∙ asked Held s.lot c.args.at c.rows.result.now (used_rows s.table) c.rows.ensures)
 
-pub returns-in_err-row : goal.returns-in_err-row
-returns-in_err-row c =
+pub returns-in_err-row-clause-buffer : goal.returns-in_err-row-clause-buffer
+returns-in_err-row-clause-buffer c =
     let s = c.args.self.now in
-    let at = c.args.at in
-    let n = present_none (slice_get (used_rows s.table) at) (notice c.in_err-row.field-0.0) c.in_err-row.ensures in
-    let h : slice_get (held_of s) at ≡ None = held_at s at c.if-at-self.false ∙ entry_at_lem s at ∙ ap (option_map (view s.octets.items s.size)) n.0 in
-    let p = err_from_is_err_and c.from_residual.result c.from_residual.ensures.1 in
-    record {
-      answer = ap told p.1 ∙ ap (λ v. Err (notice v)) p.2 ∙ ap (λ v. Err v) n.1 ∙ sym (ap (λ v. copies_of v (length c.args.buffer.now)) h);
-      buffer = sym (ap (λ v. copied_of v c.args.buffer.now) h);
-    }
+    absent_buffer (view s.octets.items s.size) s.lot (entries s) (used_rows s.table) refl c.args.at c.args.buffer.now _
+    (c.in_err-row.ensures ∙ asked Held s.lot c.args.at c.rows.result.now (used_rows s.table) c.rows.ensures)
 
-pub returns-then-row-buffer : goal.returns-then-row-buffer
-returns-then-row-buffer c =
+pub returns-then-row-buffer-clause-answer : goal.returns-then-row-buffer-clause-answer
+returns-then-row-buffer-clause-answer c =
     let s = c.args.self.now in
-    let at = c.args.at in
-    let b = c.args.buffer.now in
-    let r = c.in_ok-row.row in
-    let e = view s.octets.items s.size r in
-    let n : slice_get (used_rows s.table) at ≡ Some r = present_some (slice_get (used_rows s.table) at) r c.in_ok-row.ensures in
-    let h : slice_get (held_of s) at ≡ Some e = held_at s at c.if-at-self.false ∙ entry_at_lem s at ∙ ap (option_map (view s.octets.items s.size)) n in
-    record {
-      answer = copies_short (held_of s) at b e h (omega (arith, (lies s at r n).long, c.if-row-buffer.true));
-      buffer = copied_short (held_of s) at b e h (omega (arith, (lies s at r n).long, c.if-row-buffer.true));
-    }
+    let n = found Held s.lot c.args.at c.rows.result.now (used_rows s.table) c.rows.ensures c.in_ok-row.row c.in_ok-row.ensures in
+    short_answer (view s.octets.items s.size) s.lot (entries s) (used_rows s.table) refl c.args.at c.args.buffer.now c.in_ok-row.row n c.in_ok-row.row.length (lies_in Held s c.args.at c.in_ok-row.row n).long c.if-row-buffer.true
 
-pub overflow_mul-row : goal.overflow_mul-row
-overflow_mul-row c =
+pub returns-then-row-buffer-clause-buffer : goal.returns-then-row-buffer-clause-buffer
+returns-then-row-buffer-clause-buffer c =
     let s = c.args.self.now in
-    let l = lies s c.args.at c.in_ok-row.row (present_some _ _ c.in_ok-row.ensures) in
-    omega (arith, l.ends, s.octets.ok.0, c.as_slice.ensures.len)
+    let n = found Held s.lot c.args.at c.rows.result.now (used_rows s.table) c.rows.ensures c.in_ok-row.row c.in_ok-row.ensures in
+    short_buffer (view s.octets.items s.size) s.lot (entries s) (used_rows s.table) refl c.args.at c.args.buffer.now c.in_ok-row.row n c.in_ok-row.row.length (lies_in Held s c.args.at c.in_ok-row.row n).long c.if-row-buffer.true
 
-pub copy_out-requires : goal.copy_out-requires
-copy_out-requires c =
+pub overflow_mul-from : goal.overflow_mul-from
+overflow_mul-from c =
     let s = c.args.self.now in
-    let l = lies s c.args.at c.in_ok-row.row (present_some _ _ c.in_ok-row.ensures) in
-    (omega (arith, l.ends, s.octets.ok.0, c.as_slice.ensures.len), c.if-row-buffer.false)
+    omega (arith, (lies_in Held s c.args.at c.in_ok-row.row (found Held s.lot c.args.at c.rows.result.now (used_rows s.table) c.rows.ensures c.in_ok-row.row c.in_ok-row.ensures)).ends, s.octets.ok.0, s.octets.small)
 
-pub returns : goal.returns
-returns c =
+pub overflow_add-from : goal.overflow_add-from
+overflow_add-from c =
     let s = c.args.self.now in
-    let at = c.args.at in
-    let b = c.args.buffer.now in
-    let r = c.in_ok-row.row in
-    let e = view s.octets.items s.size r in
-    let n : slice_get (used_rows s.table) at ≡ Some r = present_some (slice_get (used_rows s.table) at) r c.in_ok-row.ensures in
-    let h : slice_get (held_of s) at ≡ Some e = held_at s at c.if-at-self.false ∙ entry_at_lem s at ∙ ap (option_map (view s.octets.items s.size)) n in
-    let l = (lies s at r n).long in
-    record {
-      answer = ap (λ v. Ok v) (sym l) ∙ copies_done (held_of s) at b e h (omega (arith, l, c.if-row-buffer.false));
-      buffer = c.copy_out.ensures
-          ∙ ap (λ v. take r.length (drop (r.slot * s.size) v) ++ drop r.length b) c.as_slice.ensures.value
-          ∙ ap (λ v. e.payload ++ drop v b) (sym l) ∙ copied_done (held_of s) at b e h (omega (arith, l, c.if-row-buffer.false));
-    }
+    omega (arith, (lies_in Held s c.args.at c.in_ok-row.row (found Held s.lot c.args.at c.rows.result.now (used_rows s.table) c.rows.ensures c.in_ok-row.row c.in_ok-row.ensures)).ends, s.octets.ok.0, s.octets.small)
+
+pub slice_bounds-copy_from_slice-end-3 : goal.slice_bounds-copy_from_slice-end-3
+slice_bounds-copy_from_slice-end-3 c =
+    let s = c.args.self.now in
+    omega (arith, (lies_in Held s c.args.at c.in_ok-row.row (found Held s.lot c.args.at c.rows.result.now (used_rows s.table) c.rows.ensures c.in_ok-row.row c.in_ok-row.ensures)).ends, ap length c.deref.ensures.value)
+
+pub returns-clause-answer : goal.returns-clause-answer
+returns-clause-answer c =
+    let s = c.args.self.now in
+    let n = found Held s.lot c.args.at c.rows.result.now (used_rows s.table) c.rows.ensures c.in_ok-row.row c.in_ok-row.ensures in
+    done_answer (view s.octets.items s.size) s.lot (entries s) (used_rows s.table) refl c.args.at c.args.buffer.now c.in_ok-row.row n c.in_ok-row.row.length (lies_in Held s c.args.at c.in_ok-row.row n).long c.if-row-buffer.false
+
+pub returns-clause-buffer : goal.returns-clause-buffer
+returns-clause-buffer c =
+    let s = c.args.self.now in
+    let n = found Held s.lot c.args.at c.rows.result.now (used_rows s.table) c.rows.ensures c.in_ok-row.row c.in_ok-row.ensures in
+    let o = c.in_ok-row.row.slot * s.size in
+    let l = c.in_ok-row.row.length in
+    let k : o + l - o ≡ l = omega arith in
+    ap (λ v. v ++ drop l c.args.buffer.now) (c.copy_from_slice.ensures.after ∙ ap (λ n. take n (drop o c.deref.result.now)) k ∙ ap (λ v. take l (drop o v)) c.deref.ensures.value)
+    ∙ done_buffer (view s.octets.items s.size) s.lot (entries s) (used_rows s.table) refl c.args.at c.args.buffer.now c.in_ok-row.row n l (lies_in Held s c.args.at c.in_ok-row.row n).long c.if-row-buffer.false

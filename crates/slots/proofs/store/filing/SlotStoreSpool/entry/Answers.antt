@@ -1,14 +1,16 @@
-use Rattle.std.proofs.Common.{sym, ap, ◌∙◌, arith}
-use Rattle.std.specs.Option.{option_map}
-use Rattle.spool.specs.Lists.{present}
-use Rattle.spool.specs.Rules.{summary}
-use Rattle.spool.proofs.Told.{tells_past}
-use Rattle.slots.specs.Stores.{held_of}
-use Rattle.slots.specs.Holdings.{held_at, held_length}
+use Rattle.std.proofs.Common.{refl, sym, ap, ◌∙◌}
+use Rattle.spool.proofs.Lots.{asked, entry_told}
+use Rattle.slots.specs.Stores.{entries, view}
+use Rattle.slots.specs.Tables.{used_rows}
+use Rattle.slots.specs.Slots.{told_by}
+use Rattle.slots.specs.Holdings.{lies_in}
 use Rattle.slots.proofs.store.filing.SlotStoreSpool.entry.Goals as goal
 
-pub returns-then-at-self : goal.returns-then-at-self
-returns-then-at-self c = let s = c.args.self.now in tells_past (held_of s) c.args.at (omega (arith, held_length s, c.if-at-self.true))
-
 pub returns : goal.returns
-returns c = c.summary.ensures ∙ sym (ap (λ v. present (option_map summary v)) (held_at c.args.self.now c.args.at c.if-at-self.false))
+returns c =
+    let s = c.args.self.now in
+    let part = c.args.part in
+    let at = c.args.at in
+    entry_told (view s.octets.items s.size) part s.lot (entries s) (used_rows s.table) refl at told_by
+    (λ r n. ap (λ w. record { mailbox = r.mailbox; length = w }) (sym (lies_in part s at r n).long))
+    c.entry.result c.map.result (c.entry.ensures ∙ asked part s.lot at c.rows.result.now (used_rows s.table) c.rows.ensures) c.map.ensures.cases
