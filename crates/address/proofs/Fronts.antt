@@ -1,12 +1,13 @@
 -- The local part and the domain at the front of octets.
-use Rattle.std.proofs.Common.{◌≡◌, ℕ, ◌<◌, ◌≤◌, Bool, true, false, cond, eqb, ◌⊎◌, List, [], ◌∷◌, ◌++◌, length, get_or, take, drop, Some, None, Option, sym, refl, ap, ◌∙◌, subst, inl, inr, arith, MatchOption}
-use Rattle.std.specs.List.{prefix_len, flat_map, AllByRecursion}
+use Rattle.std.specs.Option.{option_eq}
+use Rattle.std.proofs.Common.{Decides, ◌≡◌, ℕ, ◌<◌, ◌≤◌, Bool, true, false, cond, eqb, ◌⊎◌, List, [], ◌∷◌, ◌++◌, length, get_or, take, drop, Some, None, Option, sym, refl, ap, ◌∙◌, subst, inl, inr, arith, MatchOption}
+use Rattle.std.specs.List.{onto_first, prefix_len, flat_map, AllByRecursion}
 use Rattle.std.proofs.lemmas.List.{length-append, append-nil, take-append-drop, take_at, take_all, length-take-le, drop_more}
 use Rattle.std.proofs.ByRecursion.{All-weaker}
 use Rattle.std.proofs.lemmas.List.Sums.{prefix_len-le-length}
-use Rattle.std.proofs.lemmas.Bool.{or_left, or_right}
+use Rattle.std.proofs.lemmas.Bool.{false≢true, eqb-true, eq-eqb, or_left, or_right}
 use Rattle.address.specs.Classes.{atext, let_dig}
-use Rattle.address.specs.Words.{AllIn, run, pieces, onto_first, or_dot, label_octet, IsAtom, IsLabel, Dotted}
+use Rattle.address.specs.Words.{AllIn, run, pieces, or_dot, label_octet, IsAtom, IsLabel, Dotted}
 use Rattle.address.specs.Parts.{spelling, Quoted, QuotedAt, LocalForm, LocalAt, DomainAt, IsLocal, IsDomain, Only}
 use Rattle.address.specs.declared.words.Word.TheVariants.{Atom, Label}
 use Rattle.address.proofs.Runs.{stops_at, leading_is}
@@ -34,16 +35,25 @@ opens xs n q =
     sym (take-append-drop n xs) ∙ ap (λ v. v ++ drop n xs) q.form.spelt in
     (omega (arith, ap length f), ap (λ v. get_or v 0 0) f)
 
-pub none_quoted : (xs : List ℕ) → 0 < length xs → get_or xs 0 0 ≡ 34 → ((n : ℕ) → QuotedAt xs n → ⊥) → (n : ℕ) → LocalForm xs n → ⊥
-none_quoted xs s o h n (inl q) = h n q
-none_quoted xs s o h n (inr a) = no_atoms xs n s o a.0 a.1
-
-pub only_quoted : (xs : List ℕ) → 0 < length xs → get_or xs 0 0 ≡ 34 → (n : ℕ) → Only (QuotedAt xs) n → Only (LocalForm xs) n
-only_quoted xs s o n h = record { holds = inl h.holds; alone = go }
+-- A quoted local part, or else atoms.
+only_quoted : (xs : List ℕ) (n : ℕ) → Only (QuotedAt xs) n → Only (LocalForm xs) n
+only_quoted xs n h = record { holds = inl h.holds; alone = go }
   where
     go : (m : ℕ) → LocalForm xs m → m ≡ n
     go m (inl q) = h.alone m q
-    go m (inr a) = absurd (no_atoms xs m s o a.0 a.1)
+    go m (inr a) = let o = opens xs n h.holds in absurd (no_atoms xs m o.0 o.1 a.0 a.1)
+
+pub either_form : (xs : List ℕ) (q r : Option ℕ) → MatchOption q ((n : ℕ) → QuotedAt xs n → ⊥) (Only (QuotedAt xs)) →
+    MatchOption q (MatchOption r (Dotted Atom (run (or_dot atext) xs) → ⊥) (λ n. (n ≡ prefix_len (or_dot atext) xs) × Dotted Atom (take n xs))) (λ n. r ≡ Some n) →
+    MatchOption r ((n : ℕ) → LocalForm xs n → ⊥) (Only (LocalForm xs))
+either_form xs (Some n) r h e = rw e (only_quoted xs n h)
+either_form xs None None h d = λ n.
+    elim [ inl q ↦ h n q | inr a ↦ d (subst (λ (k : ℕ). Dotted Atom (take k xs)) a.0 a.1) ]
+either_form xs None (Some n) h d = record { holds = inr d; alone = go }
+  where
+    go : (m : ℕ) → LocalForm xs m → m ≡ n
+    go m (inl q) = absurd (h m q)
+    go m (inr a) = a.0 ∙ sym d.0
 
 pub none_atoms : (xs : List ℕ) → (0 < length xs → get_or xs 0 0 ≡ 34 → ⊥) → (Dotted Atom (run (or_dot atext) xs) → ⊥) → (n : ℕ) → LocalForm xs n → ⊥
 none_atoms xs o h n (inl q) = o (opens xs n q).0 (opens xs n q).1
@@ -121,8 +131,24 @@ local-whole xs h = subst (λ (v : List ℕ). LocalAt v (length xs)) (append-nil 
 pub domain-whole : (xs : List ℕ) → IsDomain xs → DomainAt xs (length xs)
 domain-whole xs h = subst (λ (v : List ℕ). DomainAt v (length xs)) (append-nil xs) (domain_front xs [] h refl)
 
-pub whole_local : (xs : List ℕ) (n : ℕ) → LocalAt xs n → n ≡ length xs → IsLocal xs
-whole_local xs n h e = subst IsLocal (take_all n xs (omega arith)) (local_is xs n h)
+-- What stands at the front of octets is all of them where it has as many.
+all_of : (xs : List ℕ) (At : ℕ → Type 0) (Is : Type 0) (r : Option ℕ) → MatchOption r ((n : ℕ) → At n → ⊥) (Only At) →
+    (At (length xs) → Is) → (Is → At (length xs)) → (b : Bool) → b ≡ option_eq eqb r (Some (length xs)) → Decides b Is
+all_of xs At Is None h f g b e = (λ t. absurd (false≢true (sym e ∙ t)), λ i. absurd (h (length xs) (g i)))
+all_of xs At Is (Some n) h f g b e = (
+  λ t. f (subst At (eqb-true n (length xs) (sym e ∙ t)) h.holds),
+  λ i. e ∙ eq-eqb n (length xs) (sym (h.alone (length xs) (g i))),
+)
 
-pub whole_domain : (xs : List ℕ) (n : ℕ) → DomainAt xs n → n ≡ length xs → IsDomain xs
-whole_domain xs n h e = subst IsDomain (take_all n xs (omega arith)) (domain_is xs n h)
+pub all_local : (xs : List ℕ) (r : Option ℕ) → MatchOption r ((n : ℕ) → LocalAt xs n → ⊥) (λ n. Only (LocalAt xs) n) →
+    (b : Bool) → b ≡ option_eq eqb r (Some (length xs)) → Decides b (IsLocal xs)
+all_local xs r h =
+    all_of xs (LocalAt xs) (IsLocal xs) r h
+    (λ l. subst IsLocal (take_all (length xs) xs (omega arith)) (local_is xs (length xs) l)) (local-whole xs)
+
+pub all_domain : (xs : List ℕ) (r : Option ℕ) → MatchOption r ((n : ℕ) → DomainAt xs n → ⊥) (DomainAt xs) →
+    (b : Bool) → b ≡ option_eq eqb r (Some (length xs)) → Decides b (IsDomain xs)
+all_domain xs r h =
+    all_of xs (DomainAt xs) (IsDomain xs) r
+    (weaken r (λ f. f) (λ n d. record { holds = d; alone = λ m k. k.longest ∙ sym d.longest }) h)
+    (λ d. subst IsDomain (take_all (length xs) xs (omega arith)) (domain_is xs (length xs) d)) (domain-whole xs)

@@ -1,10 +1,10 @@
 -- Reading on between quote marks.
-use Rattle.std.proofs.Common.{◌≡◌, ℕ, ◌+◌, ◌-◌, ◌<◌, ◌≤◌, true, false, List, [], ◌∷◌, ◌++◌, length, get_or, take, drop, sym, refl, ap, ◌∙◌, subst, inl, inr, add-zero, add_assoc, zero-add, arith}
+use Rattle.std.proofs.Common.{◌≡◌, ℕ, ◌+◌, ◌-◌, ◌<◌, ◌≤◌, true, false, List, [], ◌∷◌, ◌++◌, length, get_or, take, drop, sym, refl, ap, ◌∙◌, subst, add_assoc, zero-add, arith}
 use Rattle.std.specs.List.{flat_map, AllByRecursion}
-use Rattle.std.proofs.lemmas.List.{length-append, append_assoc, take-append-drop, take_at, length-take-le, drop_more, drop_all, get_or-drop, length-drop}
+use Rattle.std.proofs.lemmas.List.{length-append, append_assoc, take-append-drop, take_at, length-take-le}
 use Rattle.address.specs.Classes.{qtext, printable}
 use Rattle.address.specs.Parts.{Quotable, bare, escaped, spelling, Allowed, QuotedAt, Only}
-use Rattle.address.specs.Quotes.{BareOrEscaped}
+use Rattle.address.specs.Quotes.{Step}
 use Rattle.address.proofs.Runs.{passes_apart}
 
 -- Behind the opening quote mark: what may stand there and the closing one are m octets.
@@ -80,14 +80,13 @@ by_escape x zs q = record {
         (length (flat_map spelling ps) + 1, omega (arith, l), record { inner = ps; allowed = a.1; rest = r; spelt = ap (drop 2) e; long = refl })
 
 -- Where nothing of the kind stands, and no quote mark, nothing ends.
-stuck : (ys : List ℕ) (m : ℕ) → qtext (get_or ys 0 0) ≡ false → (get_or ys 0 0 ≡ 34 → ⊥) → (get_or ys 0 0 ≡ 92 → 1 < length ys → printable (get_or ys 1 0) ≡ true → ⊥) → Body ys m → ⊥
-stuck ys m q n p b = go b.inner b.allowed b.spelt
+stuck : (zs : List ℕ) (m : ℕ) → ((vs : List ℕ) → zs ≡ 34 ∷ vs → ⊥) → ((vs : List ℕ) → Step zs vs → ⊥) → Body zs m → ⊥
+stuck zs m n p b = go b.inner b.allowed b.spelt
   where
-    go : (ps : List Quotable) → AllByRecursion Allowed ps → ys ≡ flat_map spelling ps ++ 34 ∷ b.rest → ⊥
-    go [] a e = n (ap (λ v. get_or v 0 0) e)
-    go (bare y ∷ ps) a e = passes_apart qtext y (get_or ys 0 0) a.0 q (sym (ap (λ v. get_or v 0 0) e))
-    go (escaped y ∷ ps) a e =
-        p (ap (λ v. get_or v 0 0) e) (omega (arith, ap length e)) (ap (λ v. printable (get_or v 1 0)) e ∙ a.0)
+    go : (ps : List Quotable) → AllByRecursion Allowed ps → zs ≡ flat_map spelling ps ++ 34 ∷ b.rest → ⊥
+    go [] a e = n b.rest e
+    go (q ∷ ps) a e =
+        p (flat_map spelling ps ++ 34 ∷ b.rest) (q, a.0, e ∙ append_assoc (spelling q) (flat_map spelling ps) (34 ∷ b.rest))
 
 closed : (r : List ℕ) → Body (34 ∷ r) 1
 closed r = record { inner = []; allowed = tt; rest = r; spelt = refl; long = refl }
@@ -99,9 +98,6 @@ closed_only r m b = go b.inner b.allowed b.spelt b.long
     go [] a e l = l
     go (bare y ∷ ps) a e l = absurd (passes_apart qtext y 34 a.0 bare_34 (sym (ap (λ v. get_or v 0 0) e)))
     go (escaped y ∷ ps) a e l = absurd (let z : 34 ≡ 92 = ap (λ v. get_or v 0 0) e in omega arith)
-
-none_ends : (m : ℕ) → Body [] m → ⊥
-none_ends m b = (let e : 0 ≡ length (flat_map spelling b.inner) + (1 + length b.rest) = ap length b.spelt ∙ length-append (flat_map spelling b.inner) (34 ∷ b.rest) ∙ omega arith in omega arith)
 
 -- A quoted local part is an opening quote mark and what ends behind it.
 body_of : (s ys : List ℕ) (n : ℕ) → s ≡ 34 ∷ ys → QuotedAt s n → (m : ℕ) × (n ≡ 1 + m) × Body ys m
@@ -128,55 +124,59 @@ quoted_from s ys m e b =
       form = record { inner = b.inner; allowed = b.allowed; spelt = ap (take (1 + m)) f ∙ take_at (34 ∷ (i ++ 34 ∷ [])) b.rest (1 + m) n };
     }
 
--- In octets that begin with a quote mark, read up to i.
-module _ (s : List ℕ) (some : 0 < length s) (opened : get_or s 0 0 ≡ 34) (i : ℕ) (low : 1 ≤ i) (on : Onward (drop 1 s) (drop i s) (i - 1)) where
-  opens : s ≡ 34 ∷ drop 1 s
-  opens = drop_more s 0 0 some ∙ ap (λ x. x ∷ drop 1 s) opened
+-- A quoted local part, read as far as the rest.
+pub record ReadTo (s rest : List ℕ) : Type 0 where
+  pub behind : List ℕ
+  pub opened : s ≡ 34 ∷ behind
+  pub within : length rest ≤ length behind
+  pub onward : Onward behind rest (length behind - length rest)
 
-  pub read_on : (n : ℕ) → i < length s → BareOrEscaped s i n → (n ≡ 0 → ⊥) → (i + n ≤ length s) × Onward (drop 1 s) (drop (i + n) s) (i + n - 1)
-  read_on n l (inl h) z =
-      let e : drop i s ≡ get_or s i 0 ∷ drop (i + 1) s = drop_more s i 0 l in
-      let a = onward_more (drop 1 s) (drop i s) (drop (i + 1) s) (i - 1) 1 on
-      (subst (λ (v : List ℕ). Onward v (drop (i + 1) s) 1) (sym e) (by_bare (get_or s i 0) (drop (i + 1) s) h.1)) in
-      let k : i - 1 + 1 ≡ i + 1 - 1 = omega arith in
-      (omega (arith, h.0), subst (λ (m : ℕ). Onward (drop 1 s) (drop (i + m) s) (i + m - 1)) (sym h.0) (subst (Onward (drop 1 s) (drop (i + 1) s)) k a))
-  read_on n l (inr (inl h)) z =
-      let j : i + 1 + 1 ≡ i + 2 = omega arith in
-      let e : drop i s ≡ 92 ∷ get_or s (i + 1) 0 ∷ drop (i + 2) s =
-      drop_more s i 0 l ∙ ap (λ x. x ∷ drop (i + 1) s) h.1 ∙ ap (λ v. 92 ∷ v) (drop_more s (i + 1) 0 h.2) ∙ ap (λ m. 92 ∷ get_or s (i + 1) 0 ∷ drop m s) j in
-      let a = onward_more (drop 1 s) (drop i s) (drop (i + 2) s) (i - 1) 2 on
-      (subst (λ (v : List ℕ). Onward v (drop (i + 2) s) 2) (sym e) (by_escape (get_or s (i + 1) 0) (drop (i + 2) s) h.3)) in
-      let k : i - 1 + 2 ≡ i + 2 - 1 = omega arith in
-      (omega (arith, h.0, h.2), subst (λ (m : ℕ). Onward (drop 1 s) (drop (i + m) s) (i + m - 1)) (sym h.0) (subst (Onward (drop 1 s) (drop (i + 2) s)) k a))
-  read_on n l (inr (inr h)) z = absurd (z h.0)
+pub begun : (s ys : List ℕ) → s ≡ 34 ∷ ys → ReadTo s ys
+begun s ys e = record {
+  behind = ys;
+  opened = e;
+  within = omega arith;
+  onward = (let z : 0 ≡ length ys - length ys = omega arith in subst (Onward ys ys) z (onward_none ys));
+}
 
-  none_from : ((m : ℕ) → Body (drop i s) m → ⊥) → (n : ℕ) → QuotedAt s n → ⊥
-  none_from h n q =
-      let b = body_of s (drop 1 s) n opens q in
-      let f = on.forth b.0 b.2 in
-      h f.0 f.2
+step_on : (zs vs : List ℕ) → Step zs vs → (length vs < length zs) × Onward zs vs (length zs - length vs)
+step_on zs vs (bare x, a, e) =
+    let l : length zs ≡ 1 + length vs = ap length e ∙ omega arith in
+    let k : 1 ≡ length zs - length vs = omega (arith, l) in
+    (omega (arith, l), subst (Onward zs vs) k (subst (λ (v : List ℕ). Onward v vs 1) (sym e) (by_bare x vs a)))
+step_on zs vs (escaped x, a, e) =
+    let l : length zs ≡ 2 + length vs = ap length e ∙ omega arith in
+    let k : 2 ≡ length zs - length vs = omega (arith, l) in
+    (omega (arith, l), subst (Onward zs vs) k (subst (λ (v : List ℕ). Onward v vs 2) (sym e) (by_escape x vs a)))
 
-  pub read_stuck : (n : ℕ) → i < length s → (get_or s i 0 ≡ 34 → ⊥) → BareOrEscaped s i n → n ≡ 0 → (m : ℕ) → QuotedAt s m → ⊥
-  read_stuck n l q (inl h) z = absurd (omega arith)
-  read_stuck n l q (inr (inl h)) z = absurd (omega arith)
-  read_stuck n l q (inr (inr h)) z =
-      let f : get_or (drop i s) 0 0 ≡ get_or s i 0 = get_or-drop i s 0 0 ∙ ap (λ k. get_or s k 0) (add-zero i) in
-      none_from (λ m.
-      stuck (drop i s) m (ap qtext f ∙ h.1) (λ k. q (sym f ∙ k))
-      (λ k j r. h.2 (sym f ∙ k) (omega (arith, length-drop i s)) (ap printable (sym (get_or-drop i s 1 0)) ∙ r)))
-
-  pub read_out : length s ≤ i → (m : ℕ) → QuotedAt s m → ⊥
-  read_out g = none_from (λ m b. none_ends m (subst (λ (v : List ℕ). Body v m) (drop_all i s g) b))
-
-  pub read_closed : i < length s → get_or s i 0 ≡ 34 → Only (QuotedAt s) (i + 1)
-  read_closed l e =
-      let d : drop i s ≡ 34 ∷ drop (i + 1) s = drop_more s i 0 l ∙ ap (λ x. x ∷ drop (i + 1) s) e in
-      let b = on.back 1 (subst (λ (v : List ℕ). Body v 1) (sym d) (closed (drop (i + 1) s))) in
-      let k : 1 + (i - 1 + 1) ≡ i + 1 = omega arith in
+pub read_on : (s zs vs : List ℕ) → ReadTo s zs → Step zs vs → ReadTo s vs × (length vs < length zs)
+read_on s zs vs r h =
+    let t = step_on zs vs h in
+    let k : length r.behind - length zs + (length zs - length vs) ≡ length r.behind - length vs = omega (arith, r.within, t.0) in (
       record {
-        holds = subst (QuotedAt s) k (quoted_from s (drop 1 s) (i - 1 + 1) opens b);
-        alone = λ m q.
-            let c = body_of s (drop 1 s) m opens q in
-            let f = on.forth c.0 c.2 in
-            omega (arith, c.1, f.1, closed_only (drop (i + 1) s) f.0 (subst (λ (v : List ℕ). Body v f.0) d f.2));
-      }
+        behind = r.behind;
+        opened = r.opened;
+        within = omega (arith, r.within, t.0);
+        onward = subst (Onward r.behind vs) k (onward_more r.behind zs vs (length r.behind - length zs) (length zs - length vs) r.onward t.1);
+      },
+      t.0,
+    )
+
+pub read_stuck : (s zs : List ℕ) → ReadTo s zs → ((vs : List ℕ) → zs ≡ 34 ∷ vs → ⊥) → ((vs : List ℕ) → Step zs vs → ⊥) → (m : ℕ) → QuotedAt s m → ⊥
+read_stuck s zs r n p m q =
+    let b = body_of s r.behind m r.opened q in
+    let f = r.onward.forth b.0 b.2 in
+    stuck zs f.0 n p f.2
+
+pub read_closed : (s zs vs : List ℕ) → ReadTo s zs → zs ≡ 34 ∷ vs → Only (QuotedAt s) (length s - length vs)
+read_closed s zs vs r e =
+    let k = length r.behind - length zs in
+    let b = r.onward.back 1 (subst (λ (v : List ℕ). Body v 1) (sym e) (closed vs)) in
+    let l : 1 + (k + 1) ≡ length s - length vs = omega (arith, ap length r.opened, ap length e, r.within) in
+    record {
+      holds = subst (QuotedAt s) l (quoted_from s r.behind (k + 1) r.opened b);
+      alone = λ m q.
+          let c = body_of s r.behind m r.opened q in
+          let f = r.onward.forth c.0 c.2 in
+          omega (arith, c.1, f.1, closed_only vs f.0 (subst (λ (v : List ℕ). Body v f.0) e f.2), l);
+    }

@@ -35,13 +35,6 @@ member Qtext x = qtext x
 member LetDig x = let_dig x
 member Printable x = printable x
 
--- The number that stands for a class.
-abbrev pub weight_of : Class → ℕ
-weight_of Atext = 1
-weight_of Qtext = 2
-weight_of LetDig = 4
-weight_of Printable = 8
-
 -- The sum of the numbers of the classes that an octet is in.
 abbrev pub classes_of : ℕ → ℕ
 classes_of x = cond (atext x) 1 0 + cond (qtext x) 2 0 + cond (let_dig x) 4 0 + cond (printable x) 8 0

@@ -1,10 +1,7 @@
 -- One step between quote marks.
-use Rattle.std.specs.Prelude.{◌≡◌, ℕ, ◌+◌, ◌<◌, true, false, ◌⊎◌, List, length, ◌≢◌, slice_index}
-use Rattle.address.specs.Classes.{qtext, printable}
+use Rattle.std.specs.Prelude.{◌≡◌, ℕ, List, ◌++◌}
+use Rattle.address.specs.Parts.{Quotable, spelling, Allowed}
 
--- At a place stands an octet as it is (n is 1), a backslash with a printable octet (n is 2), or neither (n is 0).
-abbrev pub BareOrEscaped : List ℕ → ℕ → ℕ → Type 0
-BareOrEscaped xs at n =
-    ((n ≡ 1) × (qtext (slice_index xs at) ≡ true))
-    ⊎ (((n ≡ 2) × (slice_index xs at ≡ 92) × (at + 1 < length xs) × (printable (slice_index xs (at + 1)) ≡ true))
-    ⊎ ((n ≡ 0) × (qtext (slice_index xs at) ≡ false) × (slice_index xs at ≡ 92 → at + 1 < length xs → printable (slice_index xs (at + 1)) ≢ true)))
+-- Octets begin with something that may stand between quote marks, and the rest follows it.
+abbrev pub Step : List ℕ → List ℕ → Type 0
+Step xs rest = (q : Quotable) × Allowed q × (xs ≡ spelling q ++ rest)

@@ -1,6 +1,6 @@
 -- Words with dots between them: atoms in a local part, labels in a domain.
-use Rattle.std.specs.Prelude.{◌≡◌, ℕ, ◌-◌, ◌≤◌, Bool, true, cond, ◌||◌, List, [], ◌∷◌, length, take, ◌==◌, slice_index}
-use Rattle.std.specs.List.{prefix_len, AllByRecursion}
+use Rattle.std.specs.Prelude.{◌≡◌, ℕ, ◌-◌, ◌≤◌, Bool, true, ◌||◌, List, length, take, ◌==◌, slice_index}
+use Rattle.std.specs.List.{prefix_len, slice_split, AllByRecursion}
 use Rattle.address.specs.Classes.{atext, let_dig}
 use Rattle.address.specs.declared.words.Word.{Word}
 use Rattle.address.specs.declared.words.Word.TheVariants.{Atom, Label}
@@ -38,13 +38,8 @@ IsWord Atom w = IsAtom w
 IsWord Label w = IsLabel w
 
 -- What stands before the first dot, between the dots and behind the last one.
-abbrev pub onto_first : ℕ → List (List ℕ) → List (List ℕ)
-onto_first x [] = (x ∷ []) ∷ []
-onto_first x (w ∷ ws) = (x ∷ w) ∷ ws
-
 abbrev pub pieces : List ℕ → List (List ℕ)
-pieces [] = [] ∷ []
-pieces (x ∷ xs) = cond (x == 46) ([] ∷ pieces xs) (onto_first x (pieces xs))
+pieces xs = slice_split (λ x. x == 46) xs
 
 -- Words with a dot between each and the next.
 abbrev pub Dotted : Word → List ℕ → Type 0

@@ -1,17 +1,17 @@
 ghost use Rattle.std.specs.Prelude.{◌≡◌, ℕ, ◌<◌};
-ghost use Rattle.address.specs.Classes.{classes_of, member, weight_of};
+ghost use Rattle.address.specs.Classes.{classes_of, member};
 
-// The classes of octets.
+// The classes of octets, each with the number that stands for it in the table.
 #[derive(Clone, Copy)]
 pub enum Class {
     // what a local part without quote marks takes
-    Atext,
+    Atext = 1,
     // what a quoted local part takes without a backslash
-    Qtext,
+    Qtext = 2,
     // letters and digits
-    LetDig,
+    LetDig = 4,
     // the printable octets
-    Printable,
+    Printable = 8,
 }
 
 // The sum of its classes, for each octet.
@@ -27,43 +27,16 @@ const CLASSES: [u8; 256] = [
     0, 0, 0, 0, 0, 0, 0, 0, 0, 0, 0, 0, 0, 0, 0, 0, 0, 0, 0, 0, 0, 0, 0, 0, 0, 0, 0, 0, 0, 0, 0, 0,
 ];
 
-// The table's entry for an octet.
-fn entry(at: usize) -> u8
-    requires { at < 256 }
-    ensures { result ≡ classes_of at }
-{
-    CLASSES[at]
-}
-
-// The number that stands for a class in the table.
-fn weight(class: Class) -> u8
-    ensures { result ≡ weight_of class }
-{
-    match class {
-        Class::Atext => 1,
-        Class::Qtext => 2,
-        Class::LetDig => 4,
-        Class::Printable => 8,
-    }
-}
-
-// Whether a sum of classes has a class in it.
-fn has(sum: u8, class: Class) -> bool
-    ensures { (octet : ℕ) → sum ≡ classes_of octet → result ≡ member class octet }
-{
-    sum & weight(class) != 0
-}
-
 // The sum of an octet's classes.
 pub fn classes(octet: u8) -> u8
     ensures { result ≡ classes_of octet }
 {
-    entry(octet as usize)
+    CLASSES[octet as usize]
 }
 
 // Whether an octet is in a class.
 pub fn is_in(octet: u8, class: Class) -> bool
     ensures { result ≡ member class octet }
 {
-    has(classes(octet), class)
+    classes(octet) & class as u8 != 0
 }

@@ -19,8 +19,5 @@ pub fn is_postmaster(s: &[u8]) -> bool
 pub fn same_local_part(a: &[u8], b: &[u8]) -> bool
     ensures { Decides result (SameLocal a.now b.now) }
 {
-    if a == b {
-        return true;
-    }
-    is_postmaster(a) && is_postmaster(b)
+    a == b || (is_postmaster(a) && is_postmaster(b))
 }

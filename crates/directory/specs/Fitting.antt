@@ -8,13 +8,8 @@ use Rattle.std.proofs.lemmas.List.{take_rest, take-append-drop, drop_more, at_dr
 use Rattle.std.proofs.lemmas.Bool.{cond_both}
 use Rattle.std.proofs.lemmas.Bool.Decides.{same_from_decides, Decides-and, Decides-or}
 use Rattle.address.specs.Comparison.{SameDomain, SameLocal, same_domain, same_local, postmaster}
-use Rattle.directory.specs.Rows.{before_at, behind_at, domain_start, octets_of, fits_row, first_fit}
+use Rattle.directory.specs.Rows.{before_at, behind_at, domain_start, octets_of, first_fit}
 use Rattle.directory.specs.declared.row.DirectoryRow.{DirectoryRow}
-use Rattle.directory.specs.declared.row.RowKind.{RowKind}
-
--- What a read past the end of the rows would give.
-abbrev pub no_row : DirectoryRow
-no_row = record { offset = 0; length = 0; mailbox = 0 }
 
 pub same_domain_is : (r : Bool) (xs ys : List ℕ) → Decides r (SameDomain xs ys) → r ≡ same_domain xs ys
 same_domain_is r xs ys h = same_from_decides r (same_domain xs ys) h (bytes_eq-Decides (map to_ascii_lowercase xs) (map to_ascii_lowercase ys))
@@ -43,21 +38,25 @@ module _ (s : List ℕ) (n : ℕ) (h : n ≡ domain_start s) where
       subst (λ (k : ℕ). s ≡ take (k - 1) s ++ 64 ∷ drop k s) h g
 
 -- A mailbox that is told is a row's.
-pub first_below : (kind : RowKind) (text : List ℕ) (rows : List DirectoryRow) (local domain : List ℕ) →
+pub first_below : (fits : List ℕ → List ℕ → List ℕ → Bool) (text : List ℕ) (rows : List DirectoryRow) (local domain : List ℕ) →
     ((k : ℕ) (d : DirectoryRow) → k < length rows → (get_or rows k d).mailbox < 64) →
-    IfSome (first_fit kind text rows local domain) (λ m. m < 64)
-first_below kind text [] local domain h = tt
-first_below kind text (row ∷ rows) local domain h =
+    IfSome (first_fit fits text rows local domain) (λ m. m < 64)
+first_below fits text [] local domain h = tt
+first_below fits text (row ∷ rows) local domain h =
     let P : Option ℕ → Type 0 = λ o. IfSome o (λ m. m < 64) in
-    cond_both (fits_row kind (octets_of text row) local domain) (Some row.mailbox) (first_fit kind text rows local domain) P
+    cond_both (fits (octets_of text row) local domain) (Some row.mailbox) (first_fit fits text rows local domain) P
     (λ _. h 0 row (omega arith))
-    (λ _. first_below kind text rows local domain (λ k d l. h (suc k) d (omega arith)))
+    (λ _. first_below fits text rows local domain (λ k d l. h (suc k) d (omega arith)))
+
+-- What a read past the end of the rows would give.
+abbrev pub no_row : DirectoryRow
+no_row = record { offset = 0; length = 0; mailbox = 0 }
 
 -- One row on.
-pub first_step : (kind : RowKind) (text : List ℕ) (rows : List DirectoryRow) (local domain : List ℕ) (i : ℕ) → i < length rows →
-    (xs : List ℕ) → xs ≡ octets_of text (slice_index_or rows i no_row) → (b : Bool) → b ≡ fits_row kind xs local domain →
-    first_fit kind text (drop i rows) local domain ≡ cond b (Some (get_or rows i no_row).mailbox) (first_fit kind text (drop (i + 1) rows) local domain)
-first_step kind text rows local domain i l xs e b h =
-    let F : List DirectoryRow → Option ℕ = λ v. first_fit kind text v local domain in
+pub first_step : (fits : List ℕ → List ℕ → List ℕ → Bool) (text : List ℕ) (rows : List DirectoryRow) (local domain : List ℕ) (i : ℕ) → i < length rows →
+    (xs : List ℕ) → xs ≡ octets_of text (slice_index_or rows i no_row) → (b : Bool) → b ≡ fits xs local domain →
+    first_fit fits text (drop i rows) local domain ≡ cond b (Some (get_or rows i no_row).mailbox) (first_fit fits text (drop (i + 1) rows) local domain)
+first_step fits text rows local domain i l xs e b h =
+    let F : List DirectoryRow → Option ℕ = λ v. first_fit fits text v local domain in
     at_drop_more F rows i no_row l
-    ∙ ap (λ t. cond t (Some (get_or rows i no_row).mailbox) (F (drop (i + 1) rows))) (ap (λ v. fits_row kind v local domain) (sym e) ∙ sym h)
+    ∙ ap (λ t. cond t (Some (get_or rows i no_row).mailbox) (F (drop (i + 1) rows))) (ap (λ v. fits v local domain) (sym e) ∙ sym h)

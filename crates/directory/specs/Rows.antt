@@ -5,8 +5,6 @@ use Rattle.refusals.specs.Refusals.{Notice, plain}
 use Rattle.address.specs.Comparison.{same_domain, same_local}
 use Rattle.address.specs.Parts.{IsLocal, IsDomain}
 use Rattle.directory.specs.declared.row.DirectoryRow.{DirectoryRow}
-use Rattle.directory.specs.declared.row.RowKind.{RowKind}
-use Rattle.directory.specs.declared.row.RowKind.TheVariants.{Addresses, Domains}
 
 -- The octets that a row stands for.
 abbrev pub octets_of : List ℕ → DirectoryRow → List ℕ
@@ -31,46 +29,43 @@ pub record IsAddress (xs : List ℕ) : Type 0 where
   pub domain : IsDomain (behind_at xs)
   pub spelt : xs ≡ before_at xs ++ 64 ∷ behind_at xs
 
--- A row of an address list spells an address, one of a domain list a domain.
-abbrev pub Spells : RowKind → List ℕ → Type 0
-Spells Addresses xs = IsAddress xs
-Spells Domains xs = IsDomain xs
-
 -- A row lies in the text and is spelt as its list has it.
-pub record GoodRow (kind : RowKind) (text : List ℕ) (row : DirectoryRow) : Type 0 where
+pub record GoodRow (Spells : List ℕ → Type 0) (text : List ℕ) (row : DirectoryRow) : Type 0 where
   pub within : row.offset + row.length ≤ length text
-  pub spelt : Spells kind (octets_of text row)
+  pub spelt : Spells (octets_of text row)
 
 -- At most 4,096 octets and 64 rows.
 pub record Limits (text : List ℕ) (rows : List DirectoryRow) : Type 0 where
   pub octets : length text ≤ 4096
   pub few : length rows ≤ 64
 
-abbrev pub GoodRows : RowKind → List ℕ → List DirectoryRow → Type 0
-GoodRows kind text rows = AllByRecursion (GoodRow kind text) rows
+abbrev pub GoodRows : (List ℕ → Type 0) → List ℕ → List DirectoryRow → Type 0
+GoodRows Spells text rows = AllByRecursion (GoodRow Spells text) rows
 
 abbrev pub GoodMailboxes : List DirectoryRow → Type 0
 GoodMailboxes rows = AllByRecursion (λ row. row.mailbox < 64) rows
 
-pub record Lawful (kind : RowKind) (text : List ℕ) (rows : List DirectoryRow) : Type 0 where
+pub record Lawful (Spells : List ℕ → Type 0) (text : List ℕ) (rows : List DirectoryRow) : Type 0 where
   pub limits : Limits text rows
-  pub spelt : GoodRows kind text rows
+  pub spelt : GoodRows Spells text rows
   pub mailboxes : GoodMailboxes rows
 
 -- Why a build is refused: the limits (14), then any row's place or spelling (15), then any row's mailbox (16).
-abbrev pub Refused : RowKind → List ℕ → List DirectoryRow → Notice → Type 0
-Refused kind text rows notice =
+abbrev pub Refused : (List ℕ → Type 0) → List ℕ → List DirectoryRow → Notice → Type 0
+Refused Spells text rows notice =
     ((notice ≡ plain 14) × (Limits text rows → ⊥))
-    ⊎ (((notice ≡ plain 15) × Limits text rows × (GoodRows kind text rows → ⊥))
-    ⊎ ((notice ≡ plain 16) × Limits text rows × GoodRows kind text rows × (GoodMailboxes rows → ⊥)))
+    ⊎ (((notice ≡ plain 15) × Limits text rows × (GoodRows Spells text rows → ⊥))
+    ⊎ ((notice ≡ plain 16) × Limits text rows × GoodRows Spells text rows × (GoodMailboxes rows → ⊥)))
 
--- Whether a local part and a domain are those of a row.
-abbrev pub fits_row : RowKind → List ℕ → List ℕ → List ℕ → Bool
-fits_row Addresses row local domain = same_local (before_at row) local && same_domain (behind_at row) domain
-fits_row Domains row local domain = same_domain row domain
+-- Whether a local part and a domain are those of a row: of an address both, of a domain any local part.
+abbrev pub fits_address : List ℕ → List ℕ → List ℕ → Bool
+fits_address row local domain = same_local (before_at row) local && same_domain (behind_at row) domain
+
+abbrev pub fits_domain : List ℕ → List ℕ → List ℕ → Bool
+fits_domain row local domain = same_domain row domain
 
 -- The mailbox of the first row that fits.
-abbrev pub first_fit : RowKind → List ℕ → List DirectoryRow → List ℕ → List ℕ → Option ℕ
-first_fit kind text [] local domain = None
-first_fit kind text (row ∷ rows) local domain =
-    cond (fits_row kind (octets_of text row) local domain) (Some row.mailbox) (first_fit kind text rows local domain)
+abbrev pub first_fit : (List ℕ → List ℕ → List ℕ → Bool) → List ℕ → List DirectoryRow → List ℕ → List ℕ → Option ℕ
+first_fit fits text [] local domain = None
+first_fit fits text (row ∷ rows) local domain =
+    cond (fits (octets_of text row) local domain) (Some row.mailbox) (first_fit fits text rows local domain)

@@ -1,41 +1,48 @@
-ghost use Rattle.directory.specs.Rows.{Lawful, Refused, first_fit};
-ghost use Rattle.directory.specs.declared.row.RowKind.TheVariants.{Addresses};
-ghost use Rattle.refusals.specs.Refusals.{notice};
-ghost use Rattle.std.specs.Prelude.{◌≡◌, MatchResult};
-ghost use Rattle.directory.specs.Fitting.{first_below};
+ghost use Rattle.directory.specs.Rows.{IsAddress, before_at, behind_at, fits_address};
+ghost use Rattle.std.specs.Prelude.{◌≡◌, ℕ, ◌<◌, ◌∷◌, ◌++◌, length, MatchOption, ◌≢◌, slice_index};
 
-use crate::directory::Directory;
 use crate::listing::Listing;
-use crate::row::{DirectoryRow, RowKind};
-use refusals::refusal::Rejected;
+use crate::spelling::Spelling;
+use address::comparison::{same_domain, same_local_part};
+use address::parts::{is_domain, is_local_part};
 
-// A directory whose rows spell addresses: a local part, "@" and a domain.
-#[derive(Drop)]
-pub struct AddressList {
-    listing: Listing,
+// Rows that spell addresses: a local part, "@" and a domain.
+pub struct Addresses;
+
+// A directory whose rows spell addresses.
+pub type AddressList = Listing<Addresses>;
+
+// Where the last "@" stands.
+fn last_at(s: &[u8]) -> Option<usize>
+    ensures { MatchOption result ((k : ℕ) → k < length s.now → slice_index s.now k ≢ 64) (λ at. (at < length s.now) × (slice_index s.now at ≡ 64) × ((k : ℕ) → at < k → k < length s.now → slice_index s.now k ≢ 64)) }
+{
+    s.iter().rposition(|octet| *octet == b'@')
 }
 
-impl AddressList {
-    // A list over a text and rows; refused, and both handed back, where they break the limits or a row is wrong.
-    pub fn new(
-        text: Vec<u8>,
-        rows: Vec<DirectoryRow>,
-    ) -> Result<AddressList, Rejected<(Vec<u8>, Vec<DirectoryRow>)>>
-        ensures { MatchResult result (λ l. (l.listing.text ≡ text) × (l.listing.rows ≡ rows) × Lawful Addresses text.items rows.items) (λ e. (e.given ≡ (text, rows)) × Refused Addresses text.items rows.items (notice e.refusal)) }
-    {
-        match Listing::new(RowKind::Addresses, text, rows) {
-            Ok(listing) => Ok(AddressList { listing }),
-            Err(e) => Err(e),
-        }
+// What stands before the last "@", and what stands behind it.
+fn cut(s: &[u8]) -> (&[u8], &[u8])
+    ensures before { result.0.now ≡ before_at s.now }
+    ensures behind { result.1.now ≡ behind_at s.now }
+    ensures split { length result.1.now < length s.now → s.now ≡ before_at s.now ++ 64 ∷ behind_at s.now }
+{
+    match last_at(s) {
+        Some(at) => (&s[..at], &s[at + 1..]),
+        None => (&[], s),
     }
 }
 
-impl Directory for AddressList {
-    ghost told = { λ d. first_fit Addresses d.listing.text.items d.listing.rows.items };
+impl Spelling for Addresses {
+    ghost Spelt = { IsAddress };
 
-    ghost below = { λ d local domain. first_below Addresses d.listing.text.items d.listing.rows.items local domain d.listing.below };
+    ghost fitting = { fits_address };
 
-    fn mailbox(&self, local: &[u8], domain: &[u8]) -> Option<usize> {
-        self.listing.find(RowKind::Addresses, local, domain)
+    fn spells(octets: &[u8]) -> bool {
+        let (local, domain) = cut(octets);
+        domain.len() < octets.len() && is_local_part(local) && is_domain(domain)
+    }
+
+    fn fits(row: &[u8], local: &[u8], domain: &[u8]) -> bool {
+        let (before, behind) = cut(row);
+        same_local_part(before, local) && same_domain(behind, domain)
     }
 }

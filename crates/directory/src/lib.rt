@@ -4,6 +4,6 @@
 pub mod address_list;
 pub mod directory;
 pub mod domain_list;
-mod listing;
+pub mod listing;
 pub mod row;
-mod spelling;
+pub mod spelling;

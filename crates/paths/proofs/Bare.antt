@@ -1,18 +1,17 @@
 -- "<>" and "<Postmaster>" are no paths.
-use Rattle.std.proofs.Common.{◌≡◌, ℕ, ◌+◌, ◌-◌, ◌≤◌, min, true, false, eqb, List, [], ◌∷◌, ◌++◌, map, length, get_or, take, drop, codes, sym, refl, ap, ◌∙◌, subst, inl, inr, arith}
-use lib.Seq.{take-nil}
-use Rattle.std.specs.List.{between, prefix_len, AllByRecursion}
+use Rattle.std.proofs.Common.{◌≡◌, ℕ, ◌-◌, ◌≤◌, true, false, eqb, List, [], ◌∷◌, ◌++◌, map, length, get_or, take, drop, codes, sym, refl, ap, ◌∙◌, subst, arith}
+use Rattle.std.specs.List.{prefix_len, AllByRecursion}
 use Rattle.std.specs.Char.{to_ascii_lowercase}
 use Rattle.std.proofs.ByRecursion.{All-weaker}
-use Rattle.std.proofs.lemmas.List.{append_assoc, length-append, length-map, drop_at, take_at, take_all, drop_all, length-drop}
-use Rattle.std.proofs.lemmas.Bool.{or_left, cases_lt}
+use Rattle.std.proofs.lemmas.List.{length-map, drop_at, take_at}
+use Rattle.std.proofs.lemmas.Bool.{or_left}
 use Rattle.std.proofs.lemmas.Bool.Decides.{nat_tests}
 use Rattle.address.specs.Classes.{atext, let_dig}
 use Rattle.address.specs.Words.{AllIn, or_dot, Dotted, IsAtom}
 use Rattle.address.specs.Parts.{LocalForm, LocalAt, Only}
 use Rattle.paths.specs.Paths.{PathAt}
 use Rattle.address.specs.Comparison.{IsPostmaster}
-use Rattle.paths.specs.Envelopes.{NullAt, PostmasterAt, ReverseAt, ForwardAt, domain_part, local_part, IsDomainOf, IsLocalOf}
+use Rattle.paths.specs.Envelopes.{NullAt, PostmasterAt, ReverseAt, ForwardAt, local_part, IsLocalOf}
 use Rattle.paths.specs.declared.envelope.ReversePath.{ReversePath}
 use Rattle.paths.specs.declared.envelope.ReversePath.TheVariants.{Sender, Null}
 use Rattle.paths.specs.declared.envelope.ForwardPath.{ForwardPath}
@@ -112,36 +111,7 @@ pub postmaster_closed : (xs : List ℕ) (h : PostmasterAt xs) → drop 11 xs ≡
 postmaster_closed xs h =
     ap (drop 11) h.spelt ∙ drop_at h.name (62 ∷ h.rest) 10 (postmaster-length h.name h.is_postmaster)
 
--- A part of octets, as far as there are any.
-pub part_is : (xs : List ℕ) (from to e f : ℕ) → e ≡ min to (length xs) → f ≡ min from e → take (e - f) (drop f xs) ≡ between from to xs
-part_is xs from to e f h k =
-    elim (cases_lt from e) [
-      | inl l ↦ (let g : f ≡ from = omega arith in
-          ap (λ n. take (e - n) (drop n xs)) g ∙ elim (cases_lt to (length xs)) [
-            | inl m ↦ (let t : e ≡ to = omega arith in ap (λ n. take (n - from) (drop from xs)) t)
-            | inr m ↦ (let t : length (drop from xs) ≡ length xs - from = length-drop from xs in
-                take_all (e - from) (drop from xs) (omega (arith, t)) ∙ sym (take_all (to - from) (drop from xs) (omega (arith, t))))
-          ])
-      | inr l ↦ (let g : e - f ≡ 0 = omega arith in
-          ap (λ n. take n (drop f xs)) g ∙ elim (cases_lt from to) [
-            | inl m ↦ sym (ap (take (to - from)) (drop_all from xs (omega arith)) ∙ take-nil (to - from))
-            | inr m ↦ (let t : to - from ≡ 0 = omega arith in sym (ap (λ n. take n (drop from xs)) t))
-          ])
-    ]
-
--- The parts of a path that a line begins with.
-pub domain_means : (line name : List ℕ) (path : ForwardPath) (xs : List ℕ) → xs ≡ domain_part line name path → IsDomainOf line name path xs
-domain_means line name (Recipient p) xs e = λ h.
-    let front : List ℕ = 60 ∷ (h.local ++ 64 ∷ []) in
-    let back : List ℕ = h.domain ++ 62 ∷ h.rest in
-    let l : length (h.local ++ 64 ∷ []) ≡ length h.local + 1 = length-append h.local (64 ∷ []) in
-    let n : length front ≡ p.at + 1 = omega (arith, l, h.at_sign) in
-    let m : length h.domain ≡ p.end - 1 - (p.at + 1) = omega (arith, h.ends) in
-    let f : line ≡ front ++ back = h.spelt ∙ ap (λ v. 60 ∷ v) (sym (append_assoc h.local (64 ∷ []) back)) in
-    let d : drop (p.at + 1) line ≡ back = ap (drop (p.at + 1)) f ∙ drop_at front back (p.at + 1) n in
-    e ∙ ap (take (p.end - 1 - (p.at + 1))) d ∙ take_at h.domain (62 ∷ h.rest) (p.end - 1 - (p.at + 1)) m
-domain_means line name Postmaster xs e = e
-
+-- The local part of a path that a line begins with.
 pub local_means : (line : List ℕ) (path : ForwardPath) (xs : List ℕ) → xs ≡ local_part line path → IsLocalOf line path xs
 local_means line (Recipient p) xs e = λ h.
     let m : length h.local ≡ p.at - 1 = omega (arith, h.at_sign) in

@@ -28,6 +28,15 @@ abbrev pub ForwardAt : List ℕ → ForwardPath → Type 0
 ForwardAt xs (Recipient p) = PathAt xs p
 ForwardAt xs Postmaster = PostmasterAt xs
 
+-- How many octets a path has.
+abbrev pub reverse_end : ReversePath → ℕ
+reverse_end (Sender p) = p.end
+reverse_end Null = 2
+
+abbrev pub forward_end : ForwardPath → ℕ
+forward_end (Recipient p) = p.end
+forward_end Postmaster = 12
+
 -- The domain of a path: what follows "@", or the receiver's own name where there is none.
 abbrev pub domain_part : List ℕ → List ℕ → ForwardPath → List ℕ
 domain_part line name (Recipient p) = between (p.at + 1) (p.end - 1) line

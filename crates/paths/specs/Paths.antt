@@ -64,7 +64,3 @@ Faulty xs number =
 pub record Fault {A : Type 0} (At : List ℕ → A → Type 0) (xs : List ℕ) (number : ℕ) : Type 0 where
   pub why : Faulty xs number
   pub none : (a : A) → At xs a → ⊥
-
--- An octet stands at a place.
-abbrev pub Stands : ℕ → List ℕ → ℕ → Type 0
-Stands x xs at = drop at xs ≡ x ∷ drop (at + 1) xs

@@ -16,8 +16,5 @@ pub fn worked_examples() -> usize
     ensures ends { result ≡ 5 }
     ensures examples { Examples }
 {
-    match short_path() {
-        Ok(path) => path.end,
-        Err(_) => 0,
-    }
+    short_path().map_or(0, |path| path.end)
 }

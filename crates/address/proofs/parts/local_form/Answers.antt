@@ -1,21 +1,15 @@
-use Rattle.std.proofs.Common.{◌≡◌, ◌<◌, length, get_or, arith}
-use Rattle.address.proofs.Fronts.{weaken, none_quoted, only_quoted, none_atoms, only_atoms}
+use Rattle.std.proofs.Common.{rules, ◌≡◌, take, Some, MatchOption}
+use Rattle.std.specs.List.{prefix_len}
+use Rattle.address.specs.Classes.{atext}
+use Rattle.address.specs.Words.{Dotted, or_dot, run}
+use Rattle.address.specs.declared.words.Word.TheVariants.{Atom}
+use Rattle.address.proofs.Fronts.{weaken, either_form}
 use Rattle.address.proofs.parts.local_form.Goals as goal
-use Rattle.address.proofs.parts.local_form.Goals.{else-s-gt0-via-then-s-gt0+else-s-eq34, else-s-gt0-via-else-s-gt0}
-
-pub returns-then-s-eq34 : goal.returns-then-s-eq34
-returns-then-s-eq34 c =
-    weaken c.quoted.result
-    (none_quoted c.args.s.now c.if-s-gt0.true c.if-s-eq34.true)
-    (only_quoted c.args.s.now c.if-s-gt0.true c.if-s-eq34.true)
-    c.quoted.ensures
 
 pub returns : goal.returns
 returns c =
     let s = c.args.s.now in
-    let none : 0 < length s → get_or s 0 0 ≡ 34 → ⊥ =
-    elim c.else-s-gt0.branch [
-      | else-s-gt0-via-then-s-gt0+else-s-eq34 w ↦ λ _. w.if-s-eq34.false
-      | else-s-gt0-via-else-s-gt0 w ↦ λ l. absurd (omega (arith, w.if-s-gt0.false))
-    ] in
-    weaken c.dotted.result (none_atoms s none) (only_atoms s none) c.dotted.ensures
+    let f : MatchOption c.quoted.result
+    (MatchOption c.or_else.result (Dotted Atom (run (or_dot atext) s) → ⊥) (λ n. (n ≡ prefix_len (or_dot atext) s) × Dotted Atom (take n s)))
+    (λ n. c.or_else.result ≡ Some n) = weaken c.quoted.result (λ h. search rules) (λ n e. e) c.or_else.ensures in
+    either_form s c.quoted.result c.or_else.result c.quoted.ensures f
