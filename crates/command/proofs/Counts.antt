@@ -1,57 +1,41 @@
 -- Numbers in digits, and the chunk that they announce.
-use Rattle.std.proofs.Common.{◌≡◌, ℕ, ◌+◌, ◌-◌, ◌*◌, ◌^◌, ◌<◌, ◌≤◌, min, Bool, true, false, List, [], ◌∷◌, ◌++◌, map, length, get_or, take, drop, codes, sym, refl, ap, ◌∙◌, subst, arith, rules}
+use Rattle.std.proofs.Common.{◌≡◌, ℕ, ◌+◌, ◌-◌, ◌*◌, ◌^◌, ◌<◌, ◌≤◌, Bool, true, false, List, [], ◌∷◌, ◌++◌, map, length, get_or, take, drop, codes, sym, refl, ap, ◌∙◌, subst, arith, rules}
 use Rattle.std.specs.Char.{is_ascii_digit, digit_value, to_ascii_lowercase}
-use Rattle.std.specs.List.{prefix_len}
-use Rattle.std.proofs.lemmas.List.{append-nil, length-map, length-take-le, take_all, take-append-drop, take_at, drop_at}
+use Rattle.std.specs.List.{fold, list_all, prefix_len}
+use Rattle.std.specs.Str.Parse.{digits_value_after}
+use Rattle.std.proofs.ByRecursion.{Decides-by_and}
+use Rattle.std.proofs.lemmas.List.{length-map, take-append-drop, take_at, drop_at}
 use Rattle.std.proofs.lemmas.Str.Parse.{IsDigitsTest, numerals_by_value, digits_value_short}
-use Rattle.std.proofs.lemmas.List.Sums.{prefix_len-le-length}
 use Rattle.std.proofs.lemmas.Bool.Decides.{nat_tests}
 use Rattle.address.specs.Words.{AllIn, run}
 use Rattle.address.specs.Parts.{Only}
-use Rattle.address.proofs.Runs.{leading_is, run_passes, stops_at}
+use Rattle.address.proofs.Runs.{leading_is, stops_at}
 use Rattle.command.specs.Chunks.{IsChunk, Tail}
 use Rattle.command.specs.Numerals.{IsNumeral, decimal_value, kept}
 use Rattle.command.specs.declared.chunk.Chunk.{Chunk}
 
-pub digit_value_lem : (x : ℕ) → is_ascii_digit x ≡ true → digit_value x ≡ x - 48
+digit_value_lem : (x : ℕ) → is_ascii_digit x ≡ true → digit_value x ≡ x - 48
 digit_value_lem x h = grind (arith, nat_tests)
 
-pub kept_more : (v d m a : ℕ) → m ≡ min (kept v * 10) (2 ^ 64 - 1) → a ≡ min (m + d) (2 ^ 64 - 1) → a ≡ kept (v * 10 + d)
-kept_more v d m a h k = omega arith
+-- A number as it is kept, with one more digit.
+abbrev pub keep : ℕ → ℕ → ℕ
+keep n x = kept (kept (n * 10) + (x - 48))
+
+kept_more : (n x : ℕ) → is_ascii_digit x ≡ true → keep (kept n) x ≡ kept (n * 10 + digit_value x)
+kept_more n x h = omega (arith, digit_value_lem x h)
+
+pub fold_keeps : (n : ℕ) (xs : List ℕ) → AllIn is_ascii_digit xs → fold keep (kept n) xs ≡ kept (digits_value_after 10 n xs)
+fold_keeps n [] h = refl
+fold_keeps n (x ∷ xs) h = ap (λ k. fold keep k xs) (kept_more n x h.0) ∙ fold_keeps (n * 10 + digit_value x) xs h.1
+
+pub all_digits : (xs : List ℕ) → list_all is_ascii_digit xs ≡ true → AllIn is_ascii_digit xs
+all_digits xs h = (Decides-by_and is_ascii_digit (λ x. is_ascii_digit x ≡ true) (list_all is_ascii_digit) (λ x. (λ e. e, λ e. e)) refl (λ x xs. refl) xs).0 h
 
 tells_digits : IsDigitsTest (AllIn is_ascii_digit)
 tells_digits = search rules
 
 few_fit : (xs : List ℕ) → AllIn is_ascii_digit xs → length xs ≤ 9 → decimal_value xs < 10 ^ 9
 few_fit xs h l = digits_value_short (numerals_by_value (AllIn is_ascii_digit) tells_digits) xs 9 h l
-
--- The digits at the front.
-module _ (xs : List ℕ) (count : ℕ) (is : count ≡ prefix_len is_ascii_digit xs) where
-  pub count-within : count ≤ length xs
-  count-within = omega (arith, is, prefix_len-le-length is_ascii_digit xs)
-
-  pub front_is : take count xs ≡ run is_ascii_digit xs
-  front_is = ap (λ k. take k xs) is
-
-  pub front_length : length (run is_ascii_digit xs) ≡ count
-  front_length = length-take-le (prefix_len is_ascii_digit xs) xs (prefix_len-le-length is_ascii_digit xs) ∙ sym is
-
-  -- What is digits, with no digit behind them, is the front.
-  pub front_from : (w r : List ℕ) → xs ≡ w ++ r → AllIn is_ascii_digit w → prefix_len is_ascii_digit r ≡ 0 → count ≡ length w
-  front_from w r e h z = is ∙ ap (prefix_len is_ascii_digit) e ∙ leading_is is_ascii_digit w r h z
-
-  pub numeral_count : (most n : ℕ) → IsNumeral most xs n → count ≡ length xs
-  numeral_count most n h = front_from xs [] (sym (append-nil xs)) h.digits refl
-
-  pub numeral_from : (most : ℕ) → (count ≡ 0 → ⊥) → count ≤ most → length xs ≤ count → IsNumeral most xs (decimal_value (run is_ascii_digit xs))
-  numeral_from most z m l =
-      let e : run is_ascii_digit xs ≡ xs = take_all (prefix_len is_ascii_digit xs) xs (omega (arith, is)) in
-      record {
-        some = omega (arith, count-within);
-        few = omega (arith, count-within);
-        digits = subst (AllIn is_ascii_digit) e (run_passes is_ascii_digit xs);
-        writes = ap decimal_value e;
-      }
 
 -- What stands behind a chunk's digits begins with no digit.
 lower_space : (x : ℕ) → to_ascii_lowercase x ≡ 32 → is_ascii_digit x ≡ false
@@ -75,41 +59,40 @@ no_tail false t h k = h
 abbrev chunk : ℕ → Bool → Chunk
 chunk n b = record { size = n; last = b }
 
-module _ (xs : List ℕ) (count : ℕ) (is : count ≡ prefix_len is_ascii_digit xs) where
-  chunk_count : (c : Chunk) (h : IsChunk xs c) → count ≡ length h.digits
-  chunk_count c h = front_from xs count is h.digits h.tail h.spelt h.size.digits (tail_stops c.last h.tail h.last)
+-- The digits at the front, and what stands behind them.
+module _ (xs : List ℕ) where
+  abbrev count : ℕ
+  count = prefix_len is_ascii_digit xs
 
-  chunk-digits : (c : Chunk) (h : IsChunk xs c) → h.digits ≡ run is_ascii_digit xs
-  chunk-digits c h =
-      sym (take_at h.digits h.tail count (sym (chunk_count c h))) ∙ ap (take count) (sym h.spelt) ∙ front_is xs count is
+  abbrev front : List ℕ
+  front = run is_ascii_digit xs
+
+  front-whole : xs ≡ front ++ drop count xs
+  front-whole = sym (take-append-drop count xs)
+
+  chunk-count : (c : Chunk) (h : IsChunk xs c) → length h.digits ≡ count
+  chunk-count c h =
+      sym (ap (prefix_len is_ascii_digit) h.spelt ∙ leading_is is_ascii_digit h.digits h.tail h.size.digits (tail_stops c.last h.tail h.last))
+
+  chunk-digits : (c : Chunk) (h : IsChunk xs c) → h.digits ≡ front
+  chunk-digits c h = sym (take_at h.digits h.tail count (chunk-count c h)) ∙ ap (take count) (sym h.spelt)
 
   chunk-tail : (c : Chunk) (h : IsChunk xs c) → h.tail ≡ drop count xs
-  chunk-tail c h = sym (drop_at h.digits h.tail count (sym (chunk_count c h))) ∙ ap (drop count) (sym h.spelt)
+  chunk-tail c h = sym (drop_at h.digits h.tail count (chunk-count c h)) ∙ ap (drop count) (sym h.spelt)
 
-  pub chunk_short : (c : Chunk) → IsChunk xs c → 1 ≤ count
-  chunk_short c h = omega (arith, chunk_count c h, h.size.some)
-
-  pub chunk_long : (c : Chunk) → IsChunk xs c → count ≤ 9
-  chunk_long c h = omega (arith, chunk_count c h, h.size.few)
+  pub chunk_size : (c : Chunk) → IsChunk xs c → IsNumeral 9 front c.size
+  chunk_size c h = subst (λ (v : List ℕ). IsNumeral 9 v c.size) (chunk-digits c h) h.size
 
   pub chunk_ends : (c : Chunk) → IsChunk xs c → Tail c.last (drop count xs)
   chunk_ends c h = subst (Tail c.last) (chunk-tail c h) h.last
 
-  pub chunk_only : (n : ℕ) (b : Bool) → (count ≡ 0 → ⊥) → count ≤ 9 → n ≡ kept (decimal_value (run is_ascii_digit xs)) → Tail b (drop count xs) → Only (IsChunk xs) (chunk n b)
-  chunk_only n b z l k t =
-      let w = run is_ascii_digit xs in
-      let len : length w ≡ count = front_length xs count is in
-      let v : n ≡ decimal_value w = omega (arith, k, few_fit w (run_passes is_ascii_digit xs) (omega (arith, len))) in
+  pub chunk_only : (k n : ℕ) (b : Bool) → IsNumeral 9 front n → k ≡ kept n → Tail b (drop count xs) → Only (IsChunk xs) (chunk k b)
+  chunk_only k n b h e t =
+      let v : n ≡ k = omega (arith, e, h.writes, few_fit front h.digits h.few) in
       record {
-        holds = record {
-          digits = w;
-          tail = drop count xs;
-          spelt = sym (take-append-drop count xs) ∙ ap (λ u. u ++ drop count xs) (front_is xs count is);
-          size = record { some = omega (arith, len); few = omega (arith, len); digits = run_passes is_ascii_digit xs; writes = v };
-          last = t;
-        };
-        alone = λ c h.
-            let e : c.size ≡ n = h.size.writes ∙ ap decimal_value (chunk-digits c h) ∙ sym v in
-            let f : c.last ≡ b = tails_same c.last b (drop count xs) (chunk_ends c h) t in
-            ap (λ (m : ℕ). chunk m c.last) e ∙ ap (chunk n) f;
+        holds = record { digits = front; tail = drop count xs; spelt = front-whole; size = subst (IsNumeral 9 front) v h; last = t };
+        alone = λ c g.
+            let f : c.size ≡ k = (chunk_size c g).writes ∙ sym h.writes ∙ v in
+            let l : c.last ≡ b = tails_same c.last b (drop count xs) (chunk_ends c g) t in
+            ap (λ (m : ℕ). chunk m c.last) f ∙ ap (chunk k) l;
       }

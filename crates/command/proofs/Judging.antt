@@ -1,13 +1,12 @@
 -- Right and wrong parameters.
-use Rattle.std.proofs.Common.{◌≡◌, ℕ, ◌+◌, ◌<◌, ◌≤◌, List, [], ◌∷◌, ◌++◌, length, get_or, drop, Some, None, codes, sym, refl, ap, ◌∙◌, subst, inl, inr, arith}
+use Rattle.std.proofs.Common.{◌≡◌, ℕ, ◌≤◌, List, [], ◌∷◌, ◌++◌, length, get_or, drop, Some, None, codes, sym, refl, ap, ◌∙◌, subst, inl, inr, arith}
 use Rattle.std.specs.List.{flat_map}
-use Rattle.std.proofs.lemmas.List.{drop_more, length-append, nil_from_length}
-use Rattle.address.specs.Words.{run}
+use Rattle.std.proofs.lemmas.List.{length-append, nil_from_length}
 use Rattle.command.specs.Faults.{Verdict}
-use Rattle.command.specs.Lines.{Begins, not_space}
+use Rattle.command.specs.Lines.{Begins}
 use Rattle.command.specs.Numerals.{kept}
 use Rattle.command.specs.Parameters.{AllRight, Behind, FirstWrong, Knows, Parameters, Right, Sized, Unparted, Wrong, IsSize, size_only, spaced}
-use Rattle.command.proofs.Spacing.{Parted, no_second, params_same, second}
+use Rattle.command.proofs.Spacing.{params_same}
 
 -- No list is empty that has something in it.
 nowhere : {X : Type 0} (before : List X) (p : X) (after : List X) → [] ≡ before ++ p ∷ after → ⊥
@@ -76,28 +75,22 @@ module _ (k : Knows) where
       };
     })
 
-pub unparted_by : (xs : List ℕ) → 0 < length xs → (get_or xs 0 0 ≡ 32 → ⊥) → Unparted xs
-unparted_by xs l n = record { first = get_or xs 0 0; rest = drop 1 xs; spelt = drop_more xs 0 0 l; no_space = n }
-
 -- MAIL: the size.
 size-right : (p : List ℕ) (n : ℕ) → IsSize p n → Right size_only [] p
 size-right p n h = record { own = h.0; formed = (n, h); once = tt }
 
-module _ (xs first : List ℕ) (h : Parted xs first) (n : ℕ) (is : IsSize first n) where
-  pub size-alone : (size : ℕ) → length xs ≤ 1 + length first → size ≡ kept n → Sized xs (Some size)
-  size-alone size l e = record {
+module _ (xs first : List ℕ) (n : ℕ) (is : IsSize first n) where
+  pub size_alone : (size : ℕ) → Parameters xs (first ∷ []) → size ≡ kept n → Sized xs (Some size)
+  size_alone size h e = record {
     params = first ∷ [];
-    spelt = subst (λ (v : List (List ℕ)). Parameters xs (first ∷ v)) (no_second xs first h.params h.whole l) h.whole;
+    spelt = h;
     right = right_one size_only first (size-right first n is);
     size = record { before = []; param = first; after = []; spelt = refl; number = n; is_size = is; keeps = e };
   }
 
-  pub size_then : (v : Verdict) (q : List ℕ) → 1 + length first < length xs → q ≡ run not_space (drop (1 + length first + 1) xs) →
+  pub size_then : (v : Verdict) (q : List ℕ) (more : List (List ℕ)) → Parameters xs (first ∷ q ∷ more) →
       Wrong size_only (first ∷ []) q v → Behind size_only xs v
-  size_then v q l e w =
-      let s = second xs first h.params h.whole l in
-      second_wrong size_only xs first h.params h.whole v s.param s.more s.spelt (size-right first n is)
-      (subst (λ (u : List ℕ). Wrong size_only (first ∷ []) u v) (e ∙ s.reads) w)
+  size_then v q more h w = second_wrong size_only xs first (q ∷ more) h v q more refl (size-right first n is) w
 
 pub size_none : (xs : List ℕ) → length xs ≡ 0 → Sized xs None
 size_none xs e = record {

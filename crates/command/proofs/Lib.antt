@@ -1,5 +1,4 @@
 mod Counts
 mod Judging
-mod Naming
 mod Readings
 mod Spacing

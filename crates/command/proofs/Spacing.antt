@@ -1,10 +1,10 @@
 -- Octets cut at spaces.
-use Rattle.std.proofs.Common.{◌≡◌, ℕ, ◌+◌, ◌<◌, ◌≤◌, eqb, List, [], ◌∷◌, ◌++◌, length, get_or, take, drop, sym, refl, ap, ◌∙◌, subst, inl, inr, arith}
+use Rattle.std.proofs.Common.{◌≡◌, ℕ, ◌≤◌, ◌-◌, eqb, List, [], ◌∷◌, ◌++◌, length, get_or, take, drop, sym, refl, ap, ◌∙◌, subst, inl, inr, arith}
 use Rattle.std.specs.List.{flat_map, prefix_len, AllByRecursion}
-use Rattle.std.proofs.lemmas.List.{append_assoc, length-append, take_at, drop_at, drop_more}
+use Rattle.std.proofs.lemmas.List.{append-nil, take_at, take_rest, drop_at, drop_more}
 use Rattle.std.proofs.lemmas.Bool.{cases_eq, ne_eqb, not_from_false}
 use Rattle.address.specs.Words.{run}
-use Rattle.address.proofs.Runs.{leading_is, stops_at}
+use Rattle.address.proofs.Runs.{leading_is, run_passes, stops_at}
 use Rattle.command.specs.Lines.{not_space}
 use Rattle.command.specs.Parameters.{Parameters, Spaceless, spaced}
 
@@ -58,40 +58,50 @@ params_same (p ∷ ps) (q ∷ qs) h k e =
     sym (drop_at p (flat_map spaced ps) (length p) refl) ∙ ap (drop (length p)) f ∙ drop_at q (flat_map spaced qs) (length p) (ap length (sym g)) in
     ap (λ v. v ∷ ps) g ∙ ap (λ v. q ∷ v) (params_same ps qs h.1 k.1 l)
 
+-- What stands behind a space, as the code takes it.
+pub behind_space : (xs : List ℕ) → 1 ≤ length xs → get_or xs 0 0 ≡ 32 → xs ≡ 32 ∷ take (length xs - 1) (drop 1 xs)
+behind_space xs l e = drop_more xs 0 0 l ∙ ap (λ x. x ∷ drop 1 xs) e ∙ ap (λ v. 32 ∷ v) (sym (take_rest xs 1))
+
 -- Behind a space stands the first parameter, up to the next space.
 pub record Parted (xs first : List ℕ) : Type 0 where
   pub params : List (List ℕ)
   pub whole : Parameters xs (first ∷ params)
 
-pub parted : (xs first : List ℕ) → 0 < length xs → get_or xs 0 0 ≡ 32 → first ≡ run not_space (drop 1 xs) → Parted xs first
-parted xs first l e f =
-    let s = split (drop 1 xs) in
-    let w : first ≡ s.word = f ∙ ap (run not_space) s.spelt ∙ run_word s.word s.params s.spaceless in
-    let o : xs ≡ 32 ∷ (s.word ++ flat_map spaced s.params) =
-    drop_more xs 0 0 l ∙ ap (λ x. x ∷ drop 1 xs) e ∙ ap (λ v. 32 ∷ v) s.spelt in
-    record {
-      params = s.params;
-      whole = subst (λ (v : List ℕ). Parameters xs (v ∷ s.params)) (sym w) (record { spelt = o; apart = (s.spaceless, s.apart) });
-    }
+module _ (xs rest : List ℕ) (e : xs ≡ 32 ∷ rest) (first : List ℕ) (f : first ≡ run not_space rest) where
+  spaceless_first : Spaceless first
+  spaceless_first = subst Spaceless (sym f) (run_passes not_space rest)
 
--- Nothing stands behind the first parameter.
-pub no_second : (xs w : List ℕ) (ps : List (List ℕ)) → Parameters xs (w ∷ ps) → length xs ≤ 1 + length w → ps ≡ []
-no_second xs w [] h l = refl
-no_second xs w (q ∷ qs) h l = absurd (omega (arith, ap length h.spelt, length-append w (flat_map spaced (q ∷ qs))))
+  pub parted : Parted xs first
+  parted =
+      let s = split rest in
+      let w : s.word ≡ first = sym (f ∙ ap (run not_space) s.spelt ∙ run_word s.word s.params s.spaceless) in
+      record {
+        params = s.params;
+        whole = record {
+          spelt = e ∙ ap (λ v. 32 ∷ v) s.spelt ∙ ap (λ v. 32 ∷ (v ++ flat_map spaced s.params)) w;
+          apart = (spaceless_first, s.apart);
+        };
+      }
 
--- The second parameter.
-pub record Second (xs : List ℕ) (from : ℕ) (ps : List (List ℕ)) : Type 0 where
-  pub param : List ℕ
-  pub more : List (List ℕ)
-  pub spelt : ps ≡ param ∷ more
-  pub reads : run not_space (drop from xs) ≡ param
+  -- It is the only one where no space stands behind it, and else the second one stands behind that space.
+  pub parted-alone : first ≡ rest → Parameters xs (first ∷ [])
+  parted-alone g = record {
+    spelt = e ∙ ap (λ v. 32 ∷ v) (sym (append-nil rest) ∙ ap (λ v. v ++ []) (sym g));
+    apart = (spaceless_first, tt);
+  }
 
-pub second : (xs w : List ℕ) (ps : List (List ℕ)) → Parameters xs (w ∷ ps) → 1 + length w < length xs → Second xs (1 + length w + 1) ps
-second xs w [] h l = absurd (omega (arith, ap length h.spelt, length-append w (flat_map spaced [])))
-second xs w (q ∷ qs) h l =
-    let front : List ℕ = 32 ∷ (w ++ 32 ∷ []) in
-    let back : List ℕ = q ++ flat_map spaced qs in
-    let n : length front ≡ 1 + length w + 1 = omega (arith, length-append w (32 ∷ [])) in
-    let f : xs ≡ front ++ back = h.spelt ∙ ap (λ v. 32 ∷ v) (sym (append_assoc w (32 ∷ []) back)) in
-    let d : drop (1 + length w + 1) xs ≡ back = ap (drop (1 + length w + 1)) f ∙ drop_at front back (1 + length w + 1) n in
-    record { param = q; more = qs; spelt = refl; reads = ap (run not_space) d ∙ run_word q qs h.apart.1.0 }
+  pub record Followed (more : List ℕ) : Type 0 where
+    pub params : List (List ℕ)
+    pub whole : Parameters xs (first ∷ run not_space more ∷ params)
+
+  pub followed : (more : List ℕ) → rest ≡ first ++ 32 ∷ more → Followed more
+  followed more g =
+      let s = split more in
+      let w : s.word ≡ run not_space more = sym (ap (run not_space) s.spelt ∙ run_word s.word s.params s.spaceless) in
+      record {
+        params = s.params;
+        whole = record {
+          spelt = e ∙ ap (λ v. 32 ∷ v) g ∙ ap (λ v. 32 ∷ (first ++ 32 ∷ v)) (s.spelt ∙ ap (λ v. v ++ flat_map spaced s.params) w);
+          apart = (spaceless_first, (run_passes not_space more, s.apart));
+        };
+      }

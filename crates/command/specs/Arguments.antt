@@ -1,11 +1,9 @@
 -- The arguments of MAIL and RCPT: a keyword, a path, parameters.
 use Rattle.std.specs.Prelude.{◌≡◌, ℕ, ◌⊎◌, List, length, drop, codes}
-use Rattle.paths.specs.Envelopes.{ForwardAt, ReverseAt}
+use Rattle.paths.specs.Envelopes.{ForwardAt, ReverseAt, forward_end, reverse_end}
 use Rattle.paths.specs.Paths.{Fault}
 use Rattle.paths.specs.declared.envelope.ForwardPath.{ForwardPath}
-use Rattle.paths.specs.declared.envelope.ForwardPath.TheVariants.{Recipient, Postmaster}
 use Rattle.paths.specs.declared.envelope.ReversePath.{ReversePath}
-use Rattle.paths.specs.declared.envelope.ReversePath.TheVariants.{Sender, Null}
 use Rattle.command.specs.Faults.{Verdict, bad_argument, bad_path}
 use Rattle.command.specs.Lines.{Begins}
 use Rattle.command.specs.Parameters.{AllRight, Behind, Declares, Knows, Parameters, knows_none, size_only}
@@ -59,15 +57,6 @@ Faulty s xs v =
 pub record Refused {A B : Type 0} (s : Syntax A) (Is : List ℕ → B → Type 0) (xs : List ℕ) (v : Verdict) : Type 0 where
   pub why : Faulty s xs v
   pub none : (line : B) → Is xs line → ⊥
-
--- How many octets a path has.
-abbrev pub reverse_end : ReversePath → ℕ
-reverse_end (Sender p) = p.end
-reverse_end Null = 2
-
-abbrev pub forward_end : ForwardPath → ℕ
-forward_end (Recipient p) = p.end
-forward_end Postmaster = 12
 
 abbrev pub mail_syntax : Syntax ReversePath
 mail_syntax = record { keyword = codes "FROM:"; At = ReverseAt; end = reverse_end; knows = size_only }

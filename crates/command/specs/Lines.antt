@@ -1,5 +1,5 @@
 -- A command line: a verb up to the first space, and an argument behind it.
-use Rattle.std.specs.Prelude.{◌≡◌, ℕ, ◌+◌, Bool, not, List, map, length, take, drop, ◌==◌}
+use Rattle.std.specs.Prelude.{◌≡◌, ℕ, ◌+◌, Bool, not, List, map, length, take, drop, ◌==◌, Option}
 use Rattle.std.specs.Char.{to_ascii_lowercase}
 use Rattle.std.specs.List.{prefix_len}
 use Rattle.address.specs.Classes.{printable}
@@ -18,7 +18,7 @@ verb_part line = run not_space line
 abbrev pub argument_part : List ℕ → List ℕ
 argument_part line = drop (prefix_len not_space line + 1) line
 
-abbrev pub verb_of : List ℕ → Verb
+abbrev pub verb_of : List ℕ → Option Verb
 verb_of line = first_named verbs (verb_part line)
 
 -- Every octet is printable.

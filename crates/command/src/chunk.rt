@@ -2,8 +2,7 @@ ghost use Rattle.address.specs.Parts.{Only};
 ghost use Rattle.command.specs.Chunks.{IsChunk};
 ghost use Rattle.std.specs.Option.{MatchOption};
 
-use crate::line::behind;
-use crate::numeral::leading_digits;
+use crate::numeral::{cut_digits, numeral};
 
 // What BDAT announces: how many octets follow, and whether they end the message.
 #[derive(Clone, Copy, PartialEq, Eq, Debug)]
@@ -16,14 +15,12 @@ pub struct Chunk {
 pub fn read_chunk(argument: &[u8]) -> Option<Chunk>
     ensures { MatchOption result ((c : Chunk) → IsChunk argument.now c → ⊥) (λ c. Only (IsChunk argument.now) c) }
 {
-    let (count, size) = leading_digits(argument);
-    if count == 0 || count > 9 {
-        return None;
-    }
-    if count == argument.len() {
+    let (digits, tail) = cut_digits(argument);
+    let size = numeral(digits, 9)?;
+    if tail.is_empty() {
         return Some(Chunk { size, last: false });
     }
-    if behind(argument, count).eq_ignore_ascii_case(b" LAST") {
+    if tail.eq_ignore_ascii_case(b" LAST") {
         return Some(Chunk { size, last: true });
     }
     None

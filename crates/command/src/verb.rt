@@ -15,10 +15,29 @@ pub enum Verb {
     Noop,
     Vrfy,
     Quit,
-    Unknown,
 }
 
-// The verbs that have a name.
+impl Verb {
+    // How the verb is spelt.
+    fn name(self) -> &'static [u8]
+        ensures { result.now ≡ spelling self }
+    {
+        match self {
+            Verb::Helo => b"HELO",
+            Verb::Ehlo => b"EHLO",
+            Verb::Lhlo => b"LHLO",
+            Verb::Mail => b"MAIL",
+            Verb::Rcpt => b"RCPT",
+            Verb::Data => b"DATA",
+            Verb::Bdat => b"BDAT",
+            Verb::Rset => b"RSET",
+            Verb::Noop => b"NOOP",
+            Verb::Vrfy => b"VRFY",
+            Verb::Quit => b"QUIT",
+        }
+    }
+}
+
 const VERBS: [Verb; 11] = [
     Verb::Helo,
     Verb::Ehlo,
@@ -33,35 +52,12 @@ const VERBS: [Verb; 11] = [
     Verb::Quit,
 ];
 
-// How a verb is spelt.
-fn name(verb: Verb) -> &'static [u8]
-    ensures { result.now ≡ spelling verb }
-{
-    match verb {
-        Verb::Helo => b"HELO",
-        Verb::Ehlo => b"EHLO",
-        Verb::Lhlo => b"LHLO",
-        Verb::Mail => b"MAIL",
-        Verb::Rcpt => b"RCPT",
-        Verb::Data => b"DATA",
-        Verb::Bdat => b"BDAT",
-        Verb::Rset => b"RSET",
-        Verb::Noop => b"NOOP",
-        Verb::Vrfy => b"VRFY",
-        Verb::Quit => b"QUIT",
-        Verb::Unknown => b"",
-    }
-}
-
 // The verb that a word spells in any case.
-pub(crate) fn named(word: &[u8]) -> Verb
+pub(crate) fn named(word: &[u8]) -> Option<Verb>
     ensures { result ≡ first_named verbs word.now }
 {
-    for i in 0..11 {
-        let verb = VERBS[i];
-        if word.eq_ignore_ascii_case(name(verb)) {
-            return verb;
-        }
-    }
-    Verb::Unknown
+    VERBS
+        .iter()
+        .copied()
+        .find(|verb| word.eq_ignore_ascii_case(verb.name()))
 }

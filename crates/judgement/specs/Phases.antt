@@ -7,7 +7,7 @@ use Rattle.judgement.specs.declared.phase.Kind.TheVariants.{Smtp, Lmtp}
 use Rattle.judgement.specs.declared.phase.Phase.{Phase}
 use Rattle.judgement.specs.declared.phase.Phase.TheVariants.{Fresh, Greeted, Mail, Rcpt, Data, Chunks, Spoiled, Ended}
 
--- SMTP has HELO and EHLO, and LMTP has LHLO in their place; the other verbs that have a name are those of both.
+-- SMTP has HELO and EHLO, and LMTP has LHLO in their place; the other verbs are those of both.
 abbrev pub smtp : Kind → Bool
 smtp Smtp = true
 smtp Lmtp = false
@@ -16,19 +16,19 @@ abbrev pub lmtp : Kind → Bool
 lmtp Smtp = false
 lmtp Lmtp = true
 
-abbrev pub knows : Kind → Verb → Bool
-knows kind verb.Helo = smtp kind
-knows kind verb.Ehlo = smtp kind
-knows kind verb.Lhlo = lmtp kind
-knows kind verb.Mail = true
-knows kind verb.Rcpt = true
-knows kind verb.Data = true
-knows kind verb.Bdat = true
-knows kind verb.Rset = true
-knows kind verb.Noop = true
-knows kind verb.Vrfy = true
-knows kind verb.Quit = true
-knows kind verb.Unknown = false
+abbrev pub knows : Kind → Option Verb → Bool
+knows kind None = false
+knows kind (Some verb.Helo) = smtp kind
+knows kind (Some verb.Ehlo) = smtp kind
+knows kind (Some verb.Lhlo) = lmtp kind
+knows kind (Some verb.Mail) = true
+knows kind (Some verb.Rcpt) = true
+knows kind (Some verb.Data) = true
+knows kind (Some verb.Bdat) = true
+knows kind (Some verb.Rset) = true
+knows kind (Some verb.Noop) = true
+knows kind (Some verb.Vrfy) = true
+knows kind (Some verb.Quit) = true
 
 -- The phases that a verb names; most verbs name none.
 abbrev pub phases_of : Verb → Option (List Phase)
@@ -43,7 +43,6 @@ phases_of verb.Rset = None
 phases_of verb.Noop = None
 phases_of verb.Vrfy = None
 phases_of verb.Quit = None
-phases_of verb.Unknown = None
 
 -- The phases in their order.
 abbrev pub place : Phase → ℕ
@@ -65,5 +64,6 @@ abbrev pub allowed : Option (List Phase) → Phase → Bool
 allowed None phase = true
 allowed (Some ps) phase = among phase ps
 
-abbrev pub heard_in : Phase → Verb → Bool
-heard_in phase v = allowed (phases_of v) phase
+abbrev pub heard_in : Phase → Option Verb → Bool
+heard_in phase None = true
+heard_in phase (Some v) = allowed (phases_of v) phase

@@ -1,13 +1,9 @@
-ghost use Rattle.address.specs.Parts.{IsDomain, Only};
-ghost use Rattle.command.specs.Chunks.{IsChunk};
 ghost use Rattle.command.specs.Faults.{verdict};
-ghost use Rattle.command.specs.declared.verb.Verb.TheVariants;
-ghost use Rattle.judgement.specs.Judgements.{Argued, FromThird, JudgedAs, Received, Sent, Wants, is_chunk, reply_to};
-ghost use Rattle.judgement.specs.Phases.{heard_in};
+ghost use Rattle.judgement.specs.Judgements.{Argued, BadChunk, First, FromThird, JudgedAs, Received, Sent, Wants, bad_chunk, refusal, reply_to};
 ghost use Rattle.protocol.specs.Replies.{code_of, values_of};
-ghost use Rattle.std.specs.Prelude.{◌≡◌, true, false, [], ◌≢◌};
+ghost use Rattle.std.specs.Prelude.{◌≡◌, true, Err};
 
-use crate::judged::Judged;
+use crate::judged::{Asked, Judged, Refused};
 use crate::phase::{Kind, Phase, heard, is_known};
 use address::parts::is_domain;
 use command::argument::{read_mail, read_rcpt};
@@ -15,145 +11,90 @@ use command::chunk::read_chunk;
 use command::fault::LineFault;
 use command::line::{argument_of, is_printable, verb_of};
 use command::verb::Verb;
-use paths::path::fault_number;
 use protocol::line::trimmed;
 use protocol::reply::Reply;
 
-// The reply to a fault of an argument: it has the fault's code and values.
+// The reply to a fault of an argument: it has the fault's code and values. A function, since neither type is this crate's.
 pub fn reply_to(fault: LineFault) -> Reply
     ensures answer { result ≡ reply_to fault }
     ensures code { code_of result ≡ (verdict fault).code }
     ensures values { values_of result ≡ (verdict fault).values }
 {
     match fault {
-        LineFault::BadPath(f) => Reply::BadPath(fault_number(f)),
+        LineFault::BadPath(f) => Reply::BadPath(f),
         LineFault::BadArgument => Reply::BadArgument,
         LineFault::UnknownParameter => Reply::UnknownParameter,
     }
 }
 
-fn is_chunk(verb: Verb) -> bool
-    ensures { result ≡ is_chunk verb }
-{
-    match verb {
-        Verb::Bdat => true,
-        _ => false,
+// A faulty argument is refused with the reply to its fault.
+impl From<LineFault> for Refused {
+    ghost from_gives = { λ fault refused. refused ≡ refusal (reply_to fault) };
+
+    fn from(fault: LineFault) -> Refused {
+        Refused::from(reply_to(fault))
     }
 }
 
-fn refusal(reply: Reply) -> Judged
-    ensures { result ≡ Rattle.judgement.specs.Judgements.refusal reply }
+// What a line asks for where its argument is as it has to be.
+fn wants(holds: bool, asked: Asked) -> Judged
+    ensures { Wants (holds ≡ true) asked result }
 {
-    Judged::Refused { reply, ends: false }
-}
-
-// An argument that has to be a domain.
-fn judge_domain(argument: &[u8], asked: Judged) -> Judged
-    ensures { Wants (IsDomain argument.now) asked result }
-{
-    if is_domain(argument) {
-        asked
-    } else {
-        refusal(Reply::BadArgument)
+    if !holds {
+        return Err(Refused::from(Reply::BadArgument));
     }
-}
-
-// An argument that must not be there.
-fn judge_none(argument: &[u8], asked: Judged) -> Judged
-    ensures { Wants (argument.now ≡ []) asked result }
-{
-    if argument.len() == 0 {
-        asked
-    } else {
-        refusal(Reply::BadArgument)
-    }
-}
-
-// An argument that has to be there.
-fn judge_some(argument: &[u8], asked: Judged) -> Judged
-    ensures { Wants (argument.now ≢ []) asked result }
-{
-    if argument.len() > 0 {
-        asked
-    } else {
-        refusal(Reply::BadArgument)
-    }
+    Ok(asked)
 }
 
 // The argument of MAIL.
 fn judge_mail(argument: &[u8], area: usize) -> Judged
     ensures { Sent area argument.now result }
 {
-    match read_mail(argument) {
-        Ok(line) => match line.size {
-            Some(size) => {
-                if size > area {
-                    return refusal(Reply::TooLarge);
-                }
-                Judged::Mail
-            }
-            None => Judged::Mail,
-        },
-        Err(e) => refusal(reply_to(e)),
+    let line = read_mail(argument)?;
+    if line.size.is_some_and(|size| size > area) {
+        return Err(Refused::from(Reply::TooLarge));
     }
+    Ok(Asked::Mail)
 }
 
 // The argument of RCPT.
 fn judge_rcpt(argument: &[u8]) -> Judged
     ensures { Received argument.now result }
 {
-    match read_rcpt(argument) {
-        Ok(line) => Judged::Rcpt(line),
-        Err(e) => refusal(reply_to(e)),
-    }
+    let line = read_rcpt(argument)?;
+    Ok(Asked::Rcpt(line))
 }
 
-// The argument of a verb that the session knows and that is heard.
+// The argument of a verb that is heard.
 fn judge_argument(verb: Verb, argument: &[u8], area: usize) -> Judged
-    requires known { verb ≢ TheVariants.Unknown }
-    requires other { is_chunk verb ≡ false }
-    ensures { Argued area verb argument.now result }
+    ensures { First (BadChunk verb argument.now) (result ≡ Err bad_chunk) (Argued area verb argument.now result) }
 {
     match verb {
-        Verb::Helo => judge_domain(argument, Judged::Hello),
-        Verb::Ehlo => judge_domain(argument, Judged::Extended),
-        Verb::Lhlo => judge_domain(argument, Judged::Extended),
+        Verb::Helo => wants(is_domain(argument), Asked::Hello),
+        Verb::Ehlo | Verb::Lhlo => wants(is_domain(argument), Asked::Extended),
         Verb::Mail => judge_mail(argument, area),
         Verb::Rcpt => judge_rcpt(argument),
-        Verb::Data => judge_none(argument, Judged::Data),
-        Verb::Rset => judge_none(argument, Judged::Reset),
-        Verb::Noop => Judged::Noop,
-        Verb::Vrfy => judge_some(argument, Judged::Verify),
-        Verb::Quit => judge_none(argument, Judged::Quit),
-        Verb::Bdat => Judged::Noop,
-        Verb::Unknown => Judged::Noop,
-    }
-}
-
-// A line that announces a chunk.
-fn judge_chunk(phase: Phase, verb: Verb, argument: &[u8], area: usize) -> Judged
-    requires { is_chunk verb ≡ true }
-    ensures { FromThird phase area verb argument.now result }
-{
-    match read_chunk(argument) {
-        Some(c) => Judged::Chunk(c),
-        None => Judged::Refused {
-            reply: Reply::BadArgument,
-            ends: true,
+        Verb::Data => wants(argument.is_empty(), Asked::Data),
+        Verb::Bdat => match read_chunk(argument) {
+            Some(chunk) => Ok(Asked::Chunk(chunk)),
+            None => Err(Refused {
+                reply: Reply::BadArgument,
+                ends: true,
+            }),
         },
+        Verb::Rset => wants(argument.is_empty(), Asked::Reset),
+        Verb::Noop => Ok(Asked::Noop),
+        Verb::Vrfy => wants(!argument.is_empty(), Asked::Verify),
+        Verb::Quit => wants(argument.is_empty(), Asked::Quit),
     }
 }
 
 // A readable line whose verb the session's protocol has.
 fn judge_known(phase: Phase, verb: Verb, argument: &[u8], area: usize) -> Judged
-    requires { verb ≢ TheVariants.Unknown }
     ensures { FromThird phase area verb argument.now result }
 {
-    if is_chunk(verb) {
-        return judge_chunk(phase, verb, argument, area);
-    }
-    if !heard(phase, verb) {
-        return refusal(Reply::OutOfOrder);
+    if !heard(phase, Some(verb)) {
+        return Err(Refused::from(Reply::OutOfOrder));
     }
     judge_argument(verb, argument, area)
 }
@@ -166,13 +107,13 @@ pub fn judge(kind: Kind, phase: Phase, text: &[u8], long: bool, area: usize) -> 
     let verb = verb_of(line);
     let argument = argument_of(line);
     if long || !is_printable(line) {
-        return Judged::Refused {
+        return Err(Refused {
             reply: Reply::UnknownCommand,
-            ends: is_chunk(verb),
-        };
+            ends: verb == Some(Verb::Bdat),
+        });
     }
-    if !is_known(kind, verb) {
-        return refusal(Reply::UnknownCommand);
+    match verb {
+        Some(verb) if is_known(kind, Some(verb)) => judge_known(phase, verb, argument, area),
+        _ => Err(Refused::from(Reply::UnknownCommand)),
     }
-    judge_known(phase, verb, argument, area)
 }

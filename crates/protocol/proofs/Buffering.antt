@@ -11,13 +11,6 @@ use Rattle.protocol.proofs.Breaks.{cr_pushed, unbroken_nil, unbroken_front, unbr
 pub stands_none : (octets : List ℕ) → LineStands [] (record { octets = octets; used = 0; long = false; cr = false })
 stands_none octets = record { unended = unbroken_nil; count = refl; front = refl; long = refl; cr = λ t e. pushed_some t 13 (sym e) }
 
-pub take_min : (n m : ℕ) (xs : List ℕ) → length xs ≡ m → take (min n m) xs ≡ take n xs
-take_min n m xs e =
-    elim (cases_lt n m) [
-      | inl l ↦ let q : n ≤ m = omega arith in ap (λ k. take k xs) (min-eq_left q)
-      | inr l ↦ take_all (min n m) xs (let k : min n m ≡ m = min-eq_right l in omega arith) ∙ sym (take_all n xs (omega arith))
-    ]
-
 -- Fewer octets than a longest line has came.
 under : (n used : ℕ) → used ≡ min longest n → n ≤ longest → used ≡ n
 under n used e l = e ∙ min-eq_right l

@@ -8,5 +8,3 @@ pub mod Moves
 pub mod Takes
 pub mod Settles
 pub mod Overlays
-pub mod Spelling
-pub mod Sayings

@@ -1,8 +1,10 @@
 -- Octets put into a slice, one after another.
-use Rattle.std.proofs.Common.{◌≡◌, ℕ, ◌+◌, ◌<◌, ◌≤◌, cond, List, ◌++◌, length, take, drop, Some, None, sym, ap, ◌∙◌, append_assoc, arith}
+use Rattle.std.proofs.Common.{◌≡◌, ℕ, ◌+◌, ◌<◌, ◌≤◌, List, ◌++◌, length, get_or, take, drop, Bor, sym, ap, ◌∙◌, append_assoc, arith}
+use Rattle.std.specs.List.{flat_map}
+use Rattle.std.proofs.Concat.{flat_map-take_more}
+use Rattle.std.proofs.lemmas.List.Folds.{length-flat_map-take}
 use Rattle.std.proofs.lemmas.List.{length-append, length-take-le, take_at, drop_at, drop-drop}
-use Rattle.std.proofs.lemmas.Bool.{le-leb, lt-leb}
-use Rattle.protocol.specs.Outputs.{overlaid, behind, put}
+use Rattle.protocol.specs.Outputs.{overlaid}
 
 pub overlaid-both : (was xs ys : List ℕ) (at : ℕ) → at + length xs ≤ length was → overlaid (overlaid was at xs) (at + length xs) ys ≡ overlaid was at (xs ++ ys)
 overlaid-both was xs ys at le =
@@ -25,24 +27,15 @@ pub record Put (was out xs : List ℕ) (at end : ℕ) : Type 0 where
   pub is : out ≡ overlaid was at xs
   pub place : end ≡ at + length xs
 
-pub put_more : (was out out' xs ys : List ℕ) (at end end' : ℕ) → at + length xs ≤ length was → Put was out xs at end → out' ≡ overlaid out end ys → end' ≡ end + length ys → Put was out' (xs ++ ys) at end'
-put_more was out out' xs ys at end end' le p e q =
-    let k : end ≡ at + length xs = p.place in
+-- One part more.
+pub put_next : (parts : List (Bor (List ℕ))) (d : Bor (List ℕ)) (i : ℕ) (was out out' : List ℕ) (at end end' : ℕ) → i < length parts → at + length (flat_map (λ part. part.now) parts) ≤ length was → Put was out (flat_map (λ part. part.now) (take i parts)) at end → out' ≡ overlaid out end (get_or parts i d).now → end' ≡ end + length (get_or parts i d).now → Put was out' (flat_map (λ part. part.now) (take (i + 1) parts)) at end'
+put_next parts d i was out out' at end end' lt room p e q =
+    let now : Bor (List ℕ) → List ℕ = λ part. part.now in
+    let n = length-flat_map-take now parts i d lt in
+    let k : end ≡ at + length (flat_map now (take i parts)) = p.place in
+    let grown : flat_map now (take (i + 1) parts) ≡ flat_map now (take i parts) ++ (get_or parts i d).now = sym (flat_map-take_more now parts i d lt) in
     record {
-      is = e ∙ ap (λ t. overlaid t end ys) p.is ∙ ap (λ i. overlaid (overlaid was at xs) i ys) k ∙ overlaid-both was xs ys at le;
-      place = omega (arith, length-append xs ys);
+      is = e ∙ ap (λ t. overlaid t end (now (get_or parts i d))) p.is ∙ ap (λ j. overlaid (overlaid was at (flat_map now (take i parts))) j (now (get_or parts i d))) k
+          ∙ overlaid-both was (flat_map now (take i parts)) (now (get_or parts i d)) at (omega arith) ∙ ap (overlaid was at) (sym grown);
+      place = omega (arith, ap length grown, length-append (flat_map now (take i parts)) (now (get_or parts i d)));
     }
-
-pub put_done : (was out xs : List ℕ) (at end : ℕ) → at + length xs ≤ length was → Put was out xs at end → (Some end ≡ behind was at xs) × (out ≡ put was at xs)
-put_done was out xs at end le p =
-    let b = le-leb (at + length xs) (length was) le in (
-      ap Some p.place ∙ ap (λ w. cond w (Some (at + length xs)) None) (sym b),
-      p.is ∙ ap (λ w. cond w (overlaid was at xs) was) (sym b),
-    )
-
-pub put_refused : (was xs : List ℕ) (at : ℕ) → length was < at + length xs → (None ≡ behind was at xs) × (was ≡ put was at xs)
-put_refused was xs at lt =
-    let b = lt-leb (at + length xs) (length was) lt in (
-      ap (λ w. cond w (Some (at + length xs)) None) (sym b),
-      ap (λ w. cond w (overlaid was at xs) was) (sym b),
-    )

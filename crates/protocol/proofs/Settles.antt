@@ -1,5 +1,5 @@
 -- What was heard settles the state.
-use Rattle.std.proofs.Common.{◌≡◌, ℕ, ◌≤◌, Bool, List, [], ◌∷◌, ◌++◌, length, take, drop, sym, refl, ap, ◌∙◌, subst, inl, inr, append_assoc, arith}
+use Rattle.std.proofs.Common.{◌≡◌, ℕ, ◌≤◌, List, [], ◌∷◌, ◌++◌, length, take, drop, Option, sym, refl, ap, ◌∙◌, subst, inl, inr, append_assoc, arith}
 use Rattle.std.specs.List.{flat_map, AllByRecursion}
 use Rattle.std.proofs.lemmas.List.{append-nil, same_from_push}
 use Rattle.protocol.specs.declared.part.DataPart.{DataPart}
@@ -7,7 +7,7 @@ use Rattle.protocol.specs.declared.part.LinePlace.{LinePlace}
 use Rattle.protocol.specs.declared.part.LinePlace.TheVariants.{Start, Inside, Cr, Dot, DotCr}
 use Rattle.protocol.specs.Lines.{Lines}
 use Rattle.protocol.specs.Messages.{Message, Body, carried}
-use Rattle.protocol.specs.DataParts.{At, known, Laid, DataStands, DataEnds, DataLaws}
+use Rattle.protocol.specs.DataParts.{At, known, Laid, filled, DataStands, DataEnds, DataLaws}
 use Rattle.protocol.proofs.Breaks.{pushed_some}
 use Rattle.protocol.proofs.Cuts.{one-cut}
 use Rattle.protocol.proofs.Laying.{laid_front, laid-whole, one-laid}
@@ -60,11 +60,10 @@ one_place DotCr Cr r a b = absurd (b.1 a)
 one_place DotCr Dot r a b = absurd (dot_dotcr r b a)
 one_place DotCr DotCr r a b = refl
 
-same_part : (d e : DataPart) → d.place ≡ e.place → d.kept ≡ e.kept → d.over ≡ e.over → d ≡ e
-same_part d e a b c =
-    ap (λ (x : LinePlace). record { place = x; kept = d.kept; over = d.over }) a
-    ∙ ap (λ (x : ℕ). record { place = e.place; kept = x; over = d.over }) b
-    ∙ ap (λ (x : Bool). record { place = e.place; kept = e.kept; over = x }) c
+same_part : (d e : DataPart) → d.place ≡ e.place → d.payload ≡ e.payload → d ≡ e
+same_part d e a b =
+    ap (λ (x : LinePlace). record { place = x; payload = d.payload }) a
+    ∙ ap (λ (x : Option ℕ). record { place = e.place; payload = x }) b
 
 stands : (heard : List ℕ) (d e : DataPart) (was a b : List ℕ) → DataStands heard d was a → DataStands heard e was b → (d ≡ e) × (a ≡ b)
 stands heard d e was a b s t =
@@ -74,16 +73,16 @@ stands heard d e was a b s t =
     let P : List ℕ → Type 0 = λ x. At d.place x in
     let p : d.place ≡ e.place = one_place d.place e.place t.rest (subst P rs s.place) t.place in
     let same : known d.place s.texts s.rest ≡ known e.place t.texts t.rest = cc in
-    let L : List ℕ → Type 0 = λ x. Laid x was a d.kept d.over in
-    let l = one-laid (known e.place t.texts t.rest) was a b d.kept e.kept d.over e.over (subst L same s.laid) t.laid in
-    (same_part d e p l.0 l.1, l.2)
+    let L : List ℕ → Type 0 = λ x. Laid x was a d.payload in
+    let l = one-laid (known e.place t.texts t.rest) was a b d.payload e.payload (subst L same s.laid) t.laid in
+    (same_part d e p l.0, l.1)
 
-ends : (heard more : List ℕ) (d e : DataPart) (was a b : List ℕ) → DataEnds heard d was a → DataEnds (heard ++ more) e was b → (more ≡ []) × (d.kept ≡ e.kept) × (d.over ≡ e.over) × (a ≡ b)
+ends : (heard more : List ℕ) (d e : DataPart) (was a b : List ℕ) → DataEnds heard d was a → DataEnds (heard ++ more) e was b → (more ≡ []) × (d.payload ≡ e.payload) × (a ≡ b)
 ends heard more d e was a b s t =
     let r = one heard more s.payload t.payload s.message t.message in
-    let L : List ℕ → Type 0 = λ x. Laid x was a d.kept d.over in
-    let l = one-laid t.payload was a b d.kept e.kept d.over e.over (subst L r.1 s.laid) t.laid in
-    (r.0, l.0, l.1, l.2)
+    let L : List ℕ → Type 0 = λ x. Laid x was a d.payload in
+    let l = one-laid t.payload was a b d.payload e.payload (subst L r.1 s.laid) t.laid in
+    (r.0, l.0, l.1)
 
 -- What is known to be payload is payload of every message that may come.
 stays : (more heard : List ℕ) (p : LinePlace) (texts : List (List ℕ)) (rest q : List ℕ) → Lines heard texts rest → AllByRecursion Body texts → At p rest → Message (heard ++ more) q → (tail : List ℕ) × (q ≡ known p texts rest ++ tail)
@@ -107,15 +106,16 @@ stays (x ∷ more) heard p texts rest q c b at m =
           ([], sym (one (heard ++ (x ∷ [])) more (flat_map carried texts) q N M).1 ∙ sym (append-nil (flat_map carried texts)) ∙ ap (λ y. known y texts rest) (sym g.0) ∙ sym (append-nil (known p texts rest)))
     ]
 
-sure : (heard more : List ℕ) (d : DataPart) (was area p : List ℕ) → DataStands heard d was area → Message (heard ++ more) p → (d.kept ≤ length p) × (take d.kept area ≡ take d.kept p) × (drop d.kept area ≡ drop d.kept was)
+sure : (heard more : List ℕ) (d : DataPart) (was area p : List ℕ) → DataStands heard d was area → Message (heard ++ more) p → (filled d.payload area ≤ length p) × (take (filled d.payload area) area ≡ take (filled d.payload area) p) × (drop (filled d.payload area) area ≡ drop (filled d.payload area) was)
 sure heard more d was area p s m =
     let r = stays more heard d.place s.texts s.rest p s.cut s.body s.place m in
-    let P : List ℕ → Type 0 = λ t. (d.kept ≤ length t) × (take d.kept area ≡ take d.kept t) × (drop d.kept area ≡ drop d.kept was) in
-    subst P (sym r.1) (laid_front (known d.place s.texts s.rest) r.0 was area d.kept d.over s.laid)
+    let n = filled d.payload area in
+    let P : List ℕ → Type 0 = λ t. (n ≤ length t) × (take n area ≡ take n t) × (drop n area ≡ drop n was) in
+    subst P (sym r.1) (laid_front (known d.place s.texts s.rest) r.0 was area d.payload s.laid)
 
 pub laws : DataLaws
 laws = record {
-  whole = λ heard d was area e n. laid-whole e.payload was area d.kept d.over e.laid n;
+  whole = λ heard d was area e n is. laid-whole e.payload was area d.payload n e.laid is;
   sure = sure;
   stands = stands;
   ends = ends;

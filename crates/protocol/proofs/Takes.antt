@@ -1,33 +1,28 @@
 -- What octets do to a data part and its area.
-use Rattle.std.proofs.Common.{◌≡◌, ℕ, ◌+◌, ◌-◌, ◌<◌, ◌≤◌, Bool, true, false, List, [], ◌∷◌, ◌++◌, length, get_or, take, drop, sym, refl, ap, ◌∙◌, subst, inl, inr, append_assoc, zero-le, arith}
+use Rattle.std.proofs.Common.{◌≡◌, ℕ, ◌-◌, ◌≤◌, Bool, true, false, List, [], ◌∷◌, ◌++◌, length, get_or, take, drop, Some, Option, sym, refl, ap, ◌∙◌, subst, append_assoc, arith}
 use Rattle.std.specs.List.{flat_map, AllByRecursion}
-use Rattle.std.proofs.lemmas.List.Edits.{get_or-between}
-use Rattle.std.proofs.ByRecursion.{All-from_get_or}
-use Rattle.std.proofs.lemmas.List.{append-nil, length-drop, length-take-le, get_or-drop, get_or-take, take_more, take-append-drop, take-take}
-use Rattle.std.proofs.lemmas.Slice.{between_is}
-use Rattle.std.proofs.lemmas.Bool.{cases_lt}
+use Rattle.std.proofs.lemmas.List.{append-nil, length-append, take_all, take_at}
 use Rattle.protocol.specs.declared.part.DataPart.{DataPart}
 use Rattle.protocol.specs.declared.part.LinePlace.{LinePlace}
 use Rattle.protocol.specs.declared.part.LinePlace.TheVariants.{Inside, DotCr}
 use Rattle.protocol.specs.Lines.{Lines}
 use Rattle.protocol.specs.Messages.{Message, Body, dot, carried}
-use Rattle.protocol.specs.DataParts.{At, known, Laid, DataStands, DataEnds, DataAfter, DataTook, Adds, Clear}
+use Rattle.protocol.specs.DataParts.{At, known, Laid, DataStands, DataEnds, DataAfter, DataTook, Adds}
 use Rattle.protocol.proofs.Cuts.{lines_none, lines_end}
-use Rattle.protocol.proofs.Laying.{laid_none, adds_nothing}
+use Rattle.protocol.proofs.Laying.{laid_none}
 use Rattle.protocol.proofs.Moves.{Moves, run_on}
 
-pub stands_none : (d : DataPart) (was : List ℕ) → At d.place [] → known d.place [] [] ≡ [] → d.kept ≡ 0 → d.over ≡ false → DataStands [] d was was
-stands_none d was at none k o =
-    let P : List ℕ → Type 0 = λ t. Laid t was was d.kept d.over in
-    let Q : ℕ → Type 0 = λ i. Laid [] was was i d.over in
-    let R : Bool → Type 0 = λ w. Laid [] was was 0 w in
+pub stands_none : (d : DataPart) (was : List ℕ) → At d.place [] → known d.place [] [] ≡ [] → d.payload ≡ Some 0 → DataStands [] d was was
+stands_none d was at none k =
+    let P : List ℕ → Type 0 = λ t. Laid t was was d.payload in
+    let Q : Option ℕ → Type 0 = λ i. Laid [] was was i in
     record {
       texts = [];
       rest = [];
       cut = lines_none;
       body = tt;
       place = at;
-      laid = subst P (sym none) (subst Q (sym k) (subst R (sym o) (laid_none was)));
+      laid = subst P (sym none) (subst Q (sym k) (laid_none was));
     }
 
 -- Octets that move the line, where what they bring is added.
@@ -39,7 +34,7 @@ took_on p p' octets xs d d' area area' moves is is' adds = record { after = go }
         let P : LinePlace → Type 0 = λ q. At q s.rest in
         let m = moves.from heard s.texts s.rest s.cut s.body (subst P is s.place) in
         let Q : LinePlace → Type 0 = λ q. At q m.rest' in
-        let L : List ℕ → Type 0 = λ t. Laid t was area' d'.kept d'.over in
+        let L : List ℕ → Type 0 = λ t. Laid t was area' d'.payload in
         let grown : known d.place s.texts s.rest ++ xs ≡ known d'.place m.texts' m.rest' =
         ap (λ q. known q s.texts s.rest ++ xs) is ∙ m.grows ∙ ap (λ q. known q m.texts' m.rest') (sym is')
         in
@@ -52,12 +47,6 @@ took_on p p' octets xs d d' area area' moves is is' adds = record { after = go }
           laid = subst L grown (adds.lays (known d.place s.texts s.rest) was s.laid);
         }
 
--- Octets that bring nothing yet.
-pub took_quiet : (p p' : LinePlace) (octets : List ℕ) (d : DataPart) (area : List ℕ) → Moves p octets p' [] → d.place ≡ p → DataTook d (record { place = p'; kept = d.kept; over = d.over }) area area octets false
-took_quiet p p' octets d area moves is =
-    let d' : DataPart = record { place = p'; kept = d.kept; over = d.over } in
-    took_on p p' octets [] d d' area area moves is refl (adds_nothing d d' area refl refl)
-
 -- The end line is whole.
 pub closes : (heard : List ℕ) (texts : List (List ℕ)) (rest : List ℕ) → Lines heard texts rest → AllByRecursion Body texts → rest ≡ 46 ∷ 13 ∷ [] → Message (heard ++ (10 ∷ [])) (flat_map carried texts)
 closes heard texts rest c b is = record { texts = texts; cut = lines_end heard texts rest dot c is; body = b; carries = refl }
@@ -68,7 +57,7 @@ took_end b d area ten is = let P : ℕ → Type 0 = λ x. DataTook d d area area
     go : (heard was : List ℕ) → DataStands heard d was area → DataEnds (heard ++ (10 ∷ [])) d was area
     go heard was s =
         let P : LinePlace → Type 0 = λ q. At q s.rest in
-        let L : List ℕ → Type 0 = λ t. Laid t was area d.kept d.over in
+        let L : List ℕ → Type 0 = λ t. Laid t was area d.payload in
         record {
           payload = flat_map carried s.texts;
           message = closes heard s.texts s.rest s.cut s.body (subst P is s.place);
@@ -86,35 +75,38 @@ took_both xs ys d e f a b c w g h = record {
       subst P (append_assoc heard xs ys) (h.after (heard ++ xs) was (g.after heard was s));
 }
 
--- One octet more of an input.
-pub took_more : (xs : List ℕ) (i : ℕ) (d e f : DataPart) (a b c : List ℕ) (r w : Bool) → r ≡ w → i < length xs → DataTook d e a b (take i xs) false → DataTook e f b c (get_or xs i 0 ∷ []) r → DataTook d f a c (take (i + 1) xs) w
-took_more xs i d e f a b c r w is lt g h =
-    let P : List ℕ → Type 0 = λ t. DataTook d f a c t w in
-    let R : Bool → Type 0 = λ v. DataTook e f b c (get_or xs i 0 ∷ []) v in
-    subst P (sym (take_more xs i 0 lt)) (took_both (take i xs) (get_or xs i 0 ∷ []) d e f a b c w g (subst R is h))
+-- What is left of an input after some of it was taken.
+pub record Rests (d d' : DataPart) (area area' input rest : List ℕ) : Type 0 where
+  pub taken : List ℕ
+  pub whole : input ≡ taken ++ rest
+  pub took : DataTook d d' area area' taken false
 
--- A part without a CR, after another.
-pub clear_join : (xs : List ℕ) (from i e : ℕ) → Clear xs from i → i ≤ e → Clear (take (e - i) (drop i xs)) 0 (e - i) → Clear xs from e
-clear_join xs from i e a le b k lo hi q =
-    elim (cases_lt k i) [
-      | inl h ↦ a k lo h q
-      | inr h ↦
-          let back : i + (k - i) ≡ k = omega arith in
-          b (k - i) zero-le (omega arith) (get_or-between xs i e (k - i) 0 (omega arith) ∙ ap (λ j. get_or xs j 0) back ∙ q)
-    ]
+pub rests_all : (d : DataPart) (area input : List ℕ) → Rests d d area area input input
+rests_all d area input = record { taken = []; whole = refl; took = took_none d area }
 
--- The octets up to i, and those from there up to e.
-parted : (xs : List ℕ) (i e : ℕ) → i ≤ e → take e xs ≡ take i xs ++ take (e - i) (drop i xs)
-parted xs i e le =
-    sym (ap (λ t. t ++ take (e - i) (drop i xs)) (sym (take-take i e xs le)) ∙ ap (λ t. take i (take e xs) ++ t) (between_is xs i e) ∙ take-append-drop i (take e xs))
+pub rests_less : (xs rest rest' : List ℕ) (d e f : DataPart) (a b c input : List ℕ) (w : Bool) → w ≡ false → rest ≡ xs ++ rest' → Rests d e a b input rest → DataTook e f b c xs w → Rests d f a c input rest'
+rests_less xs rest rest' d e f a b c input w is cut r t =
+    let P : Bool → Type 0 = λ v. DataTook e f b c xs v in
+    record {
+      taken = r.taken ++ xs;
+      whole = r.whole ∙ ap (λ y. r.taken ++ y) cut ∙ sym (append_assoc r.taken xs rest');
+      took = took_both r.taken xs d e f a b c false r.took (subst P is t);
+    }
 
--- A run more of an input.
-pub took_run : (xs : List ℕ) (i e : ℕ) (d f g : DataPart) (a b c : List ℕ) → i < e → e ≤ length xs → Clear xs i e → DataTook d f a b (take i xs) false → f.place ≡ Inside → g.place ≡ f.place → Adds (take (e - i) (drop i xs)) f g b c → DataTook d g a c (take e xs) false
-took_run xs i e d f g a b c lt fits clear t is same adds =
-    let run = take (e - i) (drop i xs) in
-    let m = length-drop i xs in
-    let n : length (take (e - i) (drop i xs)) ≡ e - i = length-take-le (e - i) (drop i xs) (omega arith) in
-    let all : AllByRecursion (λ x. x ≡ 13 → ⊥) run = All-from_get_or (λ x. x ≡ 13 → ⊥) run 0 (λ k hi q. clear (i + k) (omega arith) (omega arith) (sym (get_or-drop i xs k 0) ∙ sym (get_or-take (e - i) (drop i xs) k 0 (omega arith)) ∙ q)) in
-    let r = took_on Inside Inside run run f g b c (run_on run all) is (same ∙ is) adds in
-    let P : List ℕ → Type 0 = λ t. DataTook d g a c t false in
-    subst P (sym (parted xs i e (omega arith))) (took_both (take i xs) run d f g a b c false t r)
+-- What was taken of an input is all of it but what is left.
+pub rests_took : (xs rest rest' : List ℕ) (d e f : DataPart) (a b c input : List ℕ) (n : ℕ) (w v : Bool) → n ≡ length input - length rest' → w ≡ v → rest ≡ xs ++ rest' → Rests d e a b input rest → DataTook e f b c xs w → DataTook d f a c (take n input) v
+rests_took xs rest rest' d e f a b c input n w v count is cut r t =
+    let whole : input ≡ (r.taken ++ xs) ++ rest' = r.whole ∙ ap (λ y. r.taken ++ y) cut ∙ sym (append_assoc r.taken xs rest') in
+    let long = ap length whole ∙ length-append (r.taken ++ xs) rest' in
+    let P : List ℕ → Type 0 = λ y. DataTook d f a c y v in
+    let Q : Bool → Type 0 = λ u. DataTook e f b c xs u in
+    subst P (sym (ap (take n) whole ∙ take_at (r.taken ++ xs) rest' n (omega arith))) (took_both r.taken xs d e f a b c v r.took (subst Q is t))
+
+-- A run without a CR.
+pub took_run : (run : List ℕ) (d d' : DataPart) (area area' : List ℕ) → AllByRecursion (λ x. x ≡ 13 → ⊥) run → d.place ≡ Inside → d'.place ≡ d.place → Adds run d d' area area' → DataTook d d' area area' run false
+took_run run d d' area area' clear is same adds = took_on Inside Inside run run d d' area area' (run_on run clear) is (same ∙ is) adds
+
+-- The first octet, and those after it.
+pub first_then : (xs : List ℕ) → 1 ≤ length xs → xs ≡ (get_or xs 0 0 ∷ []) ++ take (length xs - 1) (drop 1 xs)
+first_then [] h = absurd (omega arith)
+first_then (x ∷ xs) h = ap (λ t. x ∷ t) (sym (take_all (length (x ∷ xs) - 1) xs (omega arith)))

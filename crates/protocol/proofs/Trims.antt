@@ -1,6 +1,6 @@
 -- A text is trimmed in one way.
-use Rattle.std.proofs.Common.{◌≡◌, ℕ, zero, suc, ◌+◌, ◌-◌, ◌<◌, ◌≤◌, Bool, true, false, cond, eqb, List, [], ◌∷◌, ◌++◌, reverse, length, get_or, take, replicate, sym, refl, ap, ◌∙◌, inl, inr, append_assoc, add-one, arith}
-use Rattle.std.proofs.lemmas.List.{append-nil, reverse-append, reverse-reverse, replicate_more, take_more}
+use Rattle.std.proofs.Common.{◌≡◌, ℕ, zero, suc, Bool, true, false, cond, eqb, List, [], ◌∷◌, ◌++◌, reverse, replicate, sym, refl, ap, ◌∙◌, inl, inr, append_assoc, add-one, arith}
+use Rattle.std.proofs.lemmas.List.{append-nil, reverse-append, reverse-reverse, replicate_more}
 use Rattle.std.proofs.lemmas.Bool.{eqb-true, eqb-false, ne_eqb}
 use Rattle.protocol.specs.Lines.{Trimmed, unspaced, trim, LineLaws}
 use Rattle.protocol.proofs.Breaks.{last}
@@ -14,17 +14,6 @@ trim_other xs x h =
     ap (λ t. reverse (unspaced t)) (reverse-append xs (x ∷ []))
     ∙ ap (λ w. reverse (cond w (unspaced (reverse xs)) (x ∷ reverse xs))) (ne_eqb x 32 h)
     ∙ ap reverse (sym (reverse-append xs (x ∷ []))) ∙ reverse-reverse (xs ++ (x ∷ []))
-
--- One octet fewer at the end of a part.
-back : (xs : List ℕ) (n : ℕ) → 0 < n → n ≤ length xs → take n xs ≡ take (n - 1) xs ++ (get_or xs (n - 1) 0 ∷ [])
-back xs n some le = let k : n ≡ n - 1 + 1 = omega arith in ap (λ i. take i xs) k ∙ take_more xs (n - 1) 0 (omega arith)
-
-pub trim_drops : (xs : List ℕ) (n : ℕ) → 0 < n → n ≤ length xs → get_or xs (n - 1) 0 ≡ 32 → trim (take (n - 1) xs) ≡ trim (take n xs)
-trim_drops xs n some le is =
-    sym (ap trim (back xs n some le ∙ ap (λ x. take (n - 1) xs ++ (x ∷ [])) is) ∙ trim-space (take (n - 1) xs))
-
-pub trim_stops : (xs : List ℕ) (n : ℕ) → 0 < n → n ≤ length xs → (get_or xs (n - 1) 0 ≡ 32 → ⊥) → trim (take n xs) ≡ take n xs
-trim_stops xs n some le not = ap trim (back xs n some le) ∙ trim_other (take (n - 1) xs) (get_or xs (n - 1) 0) not ∙ sym (back xs n some le)
 
 trim-bare : (xs : List ℕ) → ((front : List ℕ) → xs ≡ front ++ (32 ∷ []) → ⊥) → trim xs ≡ xs
 trim-bare xs bare =

@@ -2,6 +2,5 @@
 #![tactic(auto)]
 
 pub mod line;
-mod output;
 pub mod part;
 pub mod reply;

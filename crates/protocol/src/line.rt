@@ -5,7 +5,8 @@ ghost use Rattle.std.specs.Prelude.{◌≡◌, true, false, [], replicate, ◌�
 // The most octets that a line may have, its CR LF among them.
 pub const LONGEST: usize = 538;
 
-// The line that is coming in: its octets, as far as a line may go, and whether more came.
+// The line that is coming in: its octets, as far as a line may go, and whether more came. Of a line that is too long the octets that
+// were kept are told too, so that both stand side by side, in fixed memory.
 #[derive(Clone, Copy)]
 pub struct LineBuffer {
     octets: [u8; LONGEST],
@@ -70,7 +71,7 @@ impl LineBuffer {
     pub fn text(&self) -> &[u8]
         ensures { result.now ≡ kept self.now }
     {
-        &self.octets[0..self.used.min(LONGEST)]
+        &self.octets[..self.used.min(LONGEST)]
     }
 
     pub fn is_long(&self) -> bool
@@ -94,9 +95,9 @@ impl LineBuffer {
 pub fn trimmed(text: &[u8]) -> &[u8]
     ensures { result.now ≡ trim text.now }
 {
-    let mut end = text.len();
-    while end > 0 && text[end - 1] == b' ' {
-        end -= 1;
+    let mut kept = text;
+    while let [front @ .., b' '] = kept {
+        kept = front;
     }
-    &text[0..end]
+    kept
 }

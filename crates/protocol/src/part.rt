@@ -1,9 +1,10 @@
-ghost use Rattle.std.specs.Prelude.{◌≡◌, ℕ, ◌<◌, ◌≤◌, true, false, List, [], ◌∷◌, length, take};
-ghost use Rattle.protocol.specs.DataParts.{Adds, Clear, DataAfter, DataLaws, DataStands, DataTook, inside};
+ghost use Rattle.std.specs.Prelude.{◌≡◌, ◌≢◌, ℕ, ◌<◌, ◌≤◌, true, false, List, [], ◌∷◌, length, take};
+ghost use Rattle.std.specs.List.{AllByRecursion};
+ghost use Rattle.protocol.specs.DataParts.{Adds, DataAfter, DataLaws, DataStands, DataTook, inside};
 ghost use Rattle.protocol.specs.Messages.{MessageFacts, MessageLaws};
 ghost use Rattle.protocol.specs.declared.part.LinePlace.TheVariants.{DotCr, Inside};
 
-use crate::output::copy_to;
+use memchr::memchr;
 
 // Where a line of a data part that has not ended stands.
 #[derive(Clone, Copy)]
@@ -15,15 +16,14 @@ pub enum LinePlace {
     DotCr,
 }
 
-// The data part of a message between two octets: how much payload the area holds, and whether more came.
+// The data part of a message between two octets: how much payload the area holds, or none once it goes past the area.
 #[derive(Clone, Copy)]
 pub struct DataPart {
     place: LinePlace,
-    kept: usize,
-    over: bool,
+    payload: Option<usize>,
 }
 
-// What a feed did: how many octets it took, and whether the message ended with them.
+// What a feed did: how many octets it took in either case, and whether the message ended with them.
 #[derive(Clone, Copy)]
 pub struct Fed {
     pub taken: usize,
@@ -37,25 +37,16 @@ impl DataPart {
     {
         DataPart {
             place: LinePlace::Start,
-            kept: 0,
-            over: false,
+            payload: Some(0),
         }
     }
 
-    // How much payload the area holds.
-    pub fn kept(&self) -> usize
-        ensures { result ≡ self.now.kept }
+    // How much payload the area holds: none where it goes past the area.
+    pub fn payload(&self) -> Option<usize>
+        ensures { result ≡ self.now.payload }
     {
-        let kept = self.kept;
-        kept
-    }
-
-    // Whether the payload goes past the area.
-    pub fn is_over(&self) -> bool
-        ensures { result ≡ self.now.over }
-    {
-        let over = self.over;
-        over
+        let payload = self.payload;
+        payload
     }
 
     // Takes one octet, and answers whether it ended the message.
@@ -77,7 +68,7 @@ impl DataPart {
             }
             LinePlace::Cr => {
                 if octet == b'\n' {
-                    self.put(octet, area);
+                    self.put(&[octet], area);
                     self.place = LinePlace::Start;
                 } else {
                     self.go_on(octet, area);
@@ -104,7 +95,7 @@ impl DataPart {
         if octet == b'\n' {
             return true;
         }
-        self.put(b'\r', area);
+        self.put(b"\r", area);
         self.go_on(octet, area);
         false
     }
@@ -116,20 +107,19 @@ impl DataPart {
         ensures some { result.ended ≡ true → 0 < result.taken }
         ensures took { DataTook self.old self.new area.old area.new (take result.taken input.now) result.ended }
     {
-        let mut i = 0;
-        while i < input.len() {
-            let end = self.run_end(input, i);
-            if end > i {
-                self.put_run(&input[i..end], area);
-                i = end;
+        let mut rest = input;
+        while let [first, later @ ..] = rest {
+            let (run, after) = rest.split_at(self.run_length(rest));
+            if !run.is_empty() {
+                self.put(run, area);
+                rest = after;
+            } else if self.take(*first, area) {
+                return Fed {
+                    taken: input.len() - later.len(),
+                    ended: true,
+                };
             } else {
-                if self.take(input[i], area) {
-                    return Fed {
-                        taken: i + 1,
-                        ended: true,
-                    };
-                }
-                i += 1;
+                rest = later;
             }
         }
         Fed {
@@ -138,17 +128,15 @@ impl DataPart {
         }
     }
 
-    // Where the run of octets without a CR ends, if the line stands past its front.
-    fn run_end(&self, input: &[u8], from: usize) -> usize
-        requires { from ≤ length input.now }
-        ensures low { from ≤ result }
-        ensures high { result ≤ length input.now }
-        ensures clear { Clear input.now from result }
-        ensures place { from < result → self.now.place ≡ Inside }
+    // How many octets come before the next CR, if the line stands past its front.
+    fn run_length(&self, octets: &[u8]) -> usize
+        ensures within { result ≤ length octets.now }
+        ensures clear { AllByRecursion (λ x. x ≢ 13) (take result octets.now) }
+        ensures place { 0 < result → self.now.place ≡ Inside }
     {
         match self.place {
-            LinePlace::Inside => cr_from(input, from),
-            _ => from,
+            LinePlace::Inside => memchr(b'\r', octets).unwrap_or(octets.len()),
+            _ => 0,
         }
     }
 
@@ -157,40 +145,29 @@ impl DataPart {
         ensures place { self.new.place ≡ inside octet }
         ensures adds { Adds (octet ∷ []) self.old self.new area.old area.new }
     {
-        self.put(octet, area);
+        self.put(&[octet], area);
         self.place = place_inside(octet);
     }
 
-    // Adds an octet to the payload.
-    fn put(&mut self, octet: u8, area: &mut [u8])
+    // Adds octets to the payload.
+    fn put(&mut self, octets: &[u8], area: &mut [u8])
         ensures place { self.new.place ≡ self.old.place }
-        ensures adds { Adds (octet ∷ []) self.old self.new area.old area.new }
+        ensures adds { Adds octets.now self.old self.new area.old area.new }
     {
-        if self.kept < area.len() {
-            area[self.kept] = octet;
-            self.kept += 1;
-        } else {
-            self.over = true;
-        }
-    }
-
-    // Adds a run to the payload.
-    fn put_run(&mut self, run: &[u8], area: &mut [u8])
-        requires { 0 < length run.now }
-        ensures place { self.new.place ≡ self.old.place }
-        ensures adds { Adds run.now self.old self.new area.old area.new }
-    {
-        if self.kept < area.len() {
-            let room = area.len() - self.kept;
-            if run.len() <= room {
-                self.kept = copy_to(run, area, self.kept);
-            } else {
-                self.kept = copy_to(&run[0..room], area, self.kept);
-                self.over = true;
+        self.payload = match self.payload {
+            Some(at) if at <= area.len() => {
+                let room = area.len() - at;
+                if octets.len() <= room {
+                    let end = at + octets.len();
+                    area[at..end].copy_from_slice(octets);
+                    Some(end)
+                } else {
+                    area[at..].copy_from_slice(&octets[..room]);
+                    None
+                }
             }
-        } else {
-            self.over = true;
-        }
+            _ => None,
+        };
     }
 }
 
@@ -202,34 +179,6 @@ fn place_inside(octet: u8) -> LinePlace
     } else {
         LinePlace::Inside
     }
-}
-
-// The first CR from a place on, or the end.
-fn cr_from(s: &[u8], from: usize) -> usize
-    requires { from ≤ length s.now }
-    ensures low { from ≤ result }
-    ensures high { result ≤ length s.now }
-    ensures clear { Clear s.now from result }
-{
-    let mut i = from;
-    while s.len() - i >= 32 && !has_cr(&s[i..i + 32]) {
-        i += 32;
-    }
-    while i < s.len() && s[i] != b'\r' {
-        i += 1;
-    }
-    i
-}
-
-// Tells with no branch in the loop, so that it is done on many octets at once.
-fn has_cr(s: &[u8]) -> bool
-    ensures { result ≡ false → Clear s.now 0 (length s.now) }
-{
-    let mut hit = false;
-    for x in s {
-        hit = hit | (*x == b'\r');
-    }
-    hit
 }
 
 // A message, or the beginning of one, in one piece.

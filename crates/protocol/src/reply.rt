@@ -1,17 +1,19 @@
-ghost use Rattle.std.specs.Prelude.{◌≡◌, ◌<◌, ◌≤◌, ◌++◌, length, drop, decimal};
+ghost use Rattle.std.specs.Prelude.{◌≡◌, ◌≤◌, ◌++◌, length};
 ghost use Rattle.protocol.specs.Outputs.{behind, put};
 ghost use Rattle.protocol.specs.Replies.{lead_of, octets_of};
 
-use crate::output::copy_to;
+use itoa::Buffer;
+use paths::path::PathFault;
 use refusals::refusal::RoomFault;
 
-// Every reply of the receiver.
-#[derive(Clone, Copy)]
+// Every reply of the receiver. A fixed vector of replies has `Done` in its free places.
+#[derive(Clone, Copy, PartialEq, Eq, Debug, Default)]
 pub enum Reply {
     Greeting,
     Closing,
     Hello,
     Extensions,
+    #[default]
     Done,
     CannotVerify,
     GoAhead,
@@ -19,7 +21,7 @@ pub enum Reply {
     LedgerFull,
     NoRoom(RoomFault),
     UnknownCommand,
-    BadPath(u8),
+    BadPath(PathFault),
     BadArgument,
     OutOfOrder,
     NoSuchMailbox,
@@ -36,28 +38,25 @@ impl Reply {
         ensures short { length name.now ≤ 40 → size ≤ 65536 → length (octets_of name.now size self) ≤ 256 }
     {
         let lead = self.lead();
-        let mut first = [0u8; 20];
-        let mut second = [0u8; 20];
+        let mut first = Buffer::new();
+        let mut second = Buffer::new();
         match self {
             Reply::Greeting | Reply::Closing | Reply::Hello => {
                 put_parts(output, at, lead, name, b"\r\n", b"", b"")
             }
             Reply::Extensions => {
-                let from = spell(size, &mut first);
-                let digits = &first[from..20];
+                let digits = first.format(size).as_bytes();
                 let tail = b"\r\n250-PIPELINING\r\n250 CHUNKING\r\n";
                 put_parts(output, at, lead, name, b"\r\n250-SIZE ", digits, tail)
             }
             Reply::NoRoom(fault) => {
-                let layer_at = spell_octet(fault.layer, &mut first);
-                let cause_at = spell_octet(fault.cause, &mut second);
-                let layer = &first[layer_at..20];
-                let cause = &second[cause_at..20];
+                let layer = first.format(fault.layer).as_bytes();
+                let cause = second.format(u8::from(fault.cause)).as_bytes();
                 put_parts(output, at, lead, layer, b".", cause, b"\r\n")
             }
             Reply::BadPath(fault) => {
-                let path_at = spell_octet(fault, &mut first);
-                put_parts(output, at, lead, &first[path_at..20], b"\r\n", b"", b"")
+                let number = first.format(u8::from(fault)).as_bytes();
+                put_parts(output, at, lead, number, b"\r\n", b"", b"")
             }
             _ => put_parts(output, at, lead, b"\r\n", b"", b"", b""),
         }
@@ -89,60 +88,30 @@ impl Reply {
     }
 }
 
-// Puts octets in five parts: a lead, and fixed octets around two others.
-fn put_parts(
+// Puts five parts one behind another, if there is room for all of them. They are handed one by one: a slice of lent slices that the
+// caller makes gets no proof.
+fn put_parts<'a>(
     output: &mut [u8],
     at: usize,
-    lead: &[u8],
-    first: &[u8],
-    between: &[u8],
-    second: &[u8],
-    tail: &[u8],
+    lead: &'a [u8],
+    first: &'a [u8],
+    between: &'a [u8],
+    second: &'a [u8],
+    tail: &'a [u8],
 ) -> Option<usize>
-    ensures answer { result ≡ behind output.old at ((((lead.now ++ first.now) ++ between.now) ++ second.now) ++ tail.now) }
-    ensures after { output.new ≡ put output.old at ((((lead.now ++ first.now) ++ between.now) ++ second.now) ++ tail.now) }
+    ensures answer { result ≡ behind output.old at (lead.now ++ first.now ++ between.now ++ second.now ++ tail.now) }
+    ensures after { output.new ≡ put output.old at (lead.now ++ first.now ++ between.now ++ second.now ++ tail.now) }
 {
-    let end = at as u128
-        + lead.len() as u128
-        + first.len() as u128
-        + between.len() as u128
-        + second.len() as u128
-        + tail.len() as u128;
-    if end > output.len() as u128 {
-        return None;
+    let parts = [lead, first, between, second, tail];
+    let mut room = output.len().checked_sub(at)?;
+    for part in &parts {
+        room = room.checked_sub(part.len())?;
     }
-    let a = copy_to(lead, output, at);
-    let b = copy_to(first, output, a);
-    let c = copy_to(between, output, b);
-    let d = copy_to(second, output, c);
-    let e = copy_to(tail, output, d);
-    Some(e)
-}
-
-// Puts a number in decimal at the end of 20 octets, and answers where it starts.
-fn spell(n: usize, digits: &mut [u8]) -> usize
-    requires { length digits.old ≡ 20 }
-    ensures within { result ≤ 20 }
-    ensures spelt { drop result digits.new ≡ decimal n }
-{
-    let mut i = 20;
-    let mut rest = n;
-    while rest >= 10 {
-        i -= 1;
-        digits[i] = b'0' + (rest % 10) as u8;
-        rest /= 10;
+    let mut end = at;
+    for part in &parts {
+        let start = end;
+        end += part.len();
+        output[start..end].copy_from_slice(part);
     }
-    i -= 1;
-    digits[i] = b'0' + rest as u8;
-    i
-}
-
-// The same of an octet, which is below 256.
-fn spell_octet(n: u8, digits: &mut [u8]) -> usize
-    requires { length digits.old ≡ 20 }
-    ensures within { result ≤ 20 }
-    ensures spelt { drop result digits.new ≡ decimal n }
-    ensures small { n < 256 }
-{
-    spell(n as usize, digits)
+    Some(end)
 }

@@ -1,9 +1,12 @@
-use Rattle.std.proofs.Common.{refl}
-use Rattle.judgement.specs.Judgements.{bad_rcpt, recipient}
+use Rattle.std.proofs.Common.{◌≡◌, refl, Err, rules}
+use Rattle.judgement.specs.Judgements.{bad_rcpt, recipient, refusal, reply_to}
 use Rattle.judgement.proofs.judge.judge_rcpt.Goals as goal
 
-pub returns-in-Ok : goal.returns-in-Ok
-returns-in-Ok c = recipient c.in-Ok.line c.in-Ok.ensures refl
+pub returns : goal.returns
+returns c = recipient c.in_ok-line.line c.in_ok-line.ensures refl
 
-pub returns-in-Err : goal.returns-in-Err
-returns-in-Err c = bad_rcpt c.reply_to.result (record { fault = c.in-Err.e; why = c.in-Err.ensures; tells = c.reply_to.ensures.answer }) c.refusal.ensures
+pub returns-in_err-line : goal.returns-in_err-line
+returns-in_err-line c =
+    let f = c.in_err-line.field-0.0 in
+    let e : c.from_residual.result ≡ Err (refusal (reply_to f)) = search rules in
+    bad_rcpt (reply_to f) (record { fault = f; why = c.in_err-line.ensures; tells = refl }) e

@@ -1,9 +1,9 @@
-use Rattle.std.proofs.Common.{◌≡◌, ◌≤◌, length, take}
+use Rattle.std.proofs.Common.{◌≡◌, length}
 use Rattle.protocol.specs.Lines.{trim}
 use Rattle.protocol.proofs.line.trimmed.Given as goal
 
-abbrev pub invariant-loop-end : goal.invariant-loop-end
-invariant-loop-end l = (trim (take l.end l.text) ≡ trim l.text) × (l.end ≤ length l.text)
+abbrev pub invariant-loop-kept : goal.invariant-loop-kept
+invariant-loop-kept l = trim l.kept ≡ trim l.text
 
-abbrev pub decreases-loop-end : goal.decreases-loop-end
-decreases-loop-end l = l.end
+abbrev pub decreases-loop-kept : goal.decreases-loop-kept
+decreases-loop-kept l = length l.kept

@@ -1,35 +1,25 @@
-use Rattle.std.proofs.Common.{◌≡◌, ℕ, true, false, length, take, sym, subst, arith}
-use Rattle.std.proofs.lemmas.Bool.{true≢false}
-use Rattle.protocol.specs.DataParts.{DataTook}
-use Rattle.protocol.proofs.Takes.{took_none, took_more, took_run}
+use Rattle.std.proofs.Common.{◌≡◌, ℕ, ◌<◌, List, false, refl, sym, subst, ◌∙◌, arith}
+use Rattle.std.specs.List.{AllByRecursion}
+use Rattle.std.proofs.lemmas.Bool.{eqb-false}
+use Rattle.protocol.proofs.Takes.{first_then, rests_all, rests_less, rests_took, took_run}
 use Rattle.protocol.proofs.part.DataPart.feed.Goals as goal
 
-pub loop-i-init : goal.loop-i-init
-loop-i-init c = (took_none _ _, omega arith)
+pub loop-rest-init : goal.loop-rest-init
+loop-rest-init c = rests_all _ _ _
 
-pub loop-i-preserved-then-end-i : goal.loop-i-preserved-then-end-i
-loop-i-preserved-then-end-i c =
-    let k = c.run_end-end.ensures in (
-      took_run c.args.input.now c.loop-i.i c.run_end-end.result _ c.loop-i.self _ _ c.loop-i.area _ c.if-end-i.true k.high k.clear c.loop-i.invariant.0 (k.place c.if-end-i.true) c.put_run.ensures.place c.put_run.ensures.adds,
-      k.high,
-    )
+pub loop-rest-preserved-then-not-is_empty : goal.loop-rest-preserved-then-not-is_empty
+loop-rest-preserved-then-not-is_empty c =
+    let k = c.run_length.ensures in
+    let s = c.split_at.ensures in
+    let P : List ℕ → Type 0 = λ t. AllByRecursion (λ x. x ≡ 13 → ⊥) t in
+    let n = eqb-false _ 0 (sym c.is_empty.ensures ∙ c.if-not-is_empty.true) in
+    let some : 0 < c.run_length.result = omega (arith, n, s.front_len) in
+    rests_less _ c.loop-rest.rest.now _ _ _ _ _ _ _ _ false refl s.by_index.0 c.loop-rest.invariant (took_run _ _ _ _ _ (subst P (sym s.front) k.clear) (k.place some) c.put.ensures.place c.put.ensures.adds)
 
-pub loop-i-preserved : goal.loop-i-preserved
-loop-i-preserved c = (
-  took_more c.args.input.now c.loop-i.i _ c.loop-i.self _ _ c.loop-i.area _ c.take.result false c.if-take.false c.loop-i-test.true c.loop-i.invariant.0 c.take.ensures,
-  omega arith,
-)
+pub loop-rest-preserved : goal.loop-rest-preserved
+loop-rest-preserved c =
+    rests_less _ c.loop-rest.rest.now _ _ _ _ _ _ _ _ _ c.if-take.false (first_then c.loop-rest.rest.now c.in-len1-up.len_at_least) c.loop-rest.invariant c.take.ensures
 
-pub returns-then-take : goal.returns-then-take
-returns-then-take c = record {
-  within = omega arith;
-  all = λ e. absurd (true≢false e);
-  some = λ _. omega arith;
-  took = took_more c.args.input.now c.loop-i.i _ c.loop-i.self _ _ c.loop-i.area _ c.take.result true c.if-take.true c.loop-i-test.true c.loop-i.invariant.0 c.take.ensures;
-}
-
-pub returns : goal.returns
-returns c =
-    let all : c.loop-i.i ≡ length c.args.input.now = omega arith in
-    let P : ℕ → Type 0 = λ n. DataTook c.args.self.now c.loop-i.self c.args.area.now c.loop-i.area (take n c.args.input.now) false in
-    record { within = omega arith; all = λ e. omega arith; some = λ e. absurd (true≢false (sym e)); took = subst P all c.loop-i.invariant.0 }
+pub returns-then-take-clause-took : goal.returns-then-take-clause-took
+returns-then-take-clause-took c =
+    rests_took _ c.loop-rest.rest.now _ _ _ _ _ _ _ _ _ _ _ refl c.if-take.true (first_then c.loop-rest.rest.now c.in-len1-up.len_at_least) c.loop-rest.invariant c.take.ensures

@@ -1,9 +1,9 @@
-use Rattle.std.proofs.Common.{◌-◌, ◌≤◌, false, length, take}
-use Rattle.protocol.specs.DataParts.{DataTook}
+use Rattle.std.proofs.Common.{length}
+use Rattle.protocol.proofs.Takes.{Rests}
 use Rattle.protocol.proofs.part.DataPart.feed.Given as goal
 
-abbrev pub invariant-loop-i : goal.invariant-loop-i
-invariant-loop-i l = DataTook l.initial.self l.self l.initial.area l.area (take l.i l.input) false × (l.i ≤ length l.input)
+abbrev pub invariant-loop-rest : goal.invariant-loop-rest
+invariant-loop-rest l = Rests l.initial.self l.self l.initial.area l.area l.input l.rest
 
-abbrev pub decreases-loop-i : goal.decreases-loop-i
-decreases-loop-i l = length l.input - l.i
+abbrev pub decreases-loop-rest : goal.decreases-loop-rest
+decreases-loop-rest l = length l.rest

@@ -1,2 +1,0 @@
-mod Chunks
-mod Others

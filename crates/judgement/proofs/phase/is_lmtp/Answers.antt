@@ -1,9 +1,0 @@
-use Rattle.std.proofs.Common.{sym, ap}
-use Rattle.judgement.specs.Phases.{lmtp}
-use Rattle.judgement.proofs.phase.is_lmtp.Goals as goal
-
-pub returns-in-Smtp : goal.returns-in-Smtp
-returns-in-Smtp c = ap lmtp (sym c.in-Smtp.is)
-
-pub returns-in-Lmtp : goal.returns-in-Lmtp
-returns-in-Lmtp c = ap lmtp (sym c.in-Lmtp.is)
