@@ -1,32 +1,57 @@
 -- How a refusal for want of room is a fault, and a fault an answer.
-use Rattle.std.proofs.Common.{◌≡◌, ℕ, ◌<◌, ◌≤◌, false, leb, List, [], is_some, Some, None, Ok, Err, Option, sym, refl, ap, ◌∙◌, arith}
+use Rattle.std.proofs.Common.{◌≡◌, ℕ, zero, suc, ◌<◌, ◌≤◌, false, leb, List, [], is_some, Some, None, Ok, Err, Option, Result, sym, refl, ap, subst, ◌∙◌, arith}
 use Rattle.std.proofs.lemmas.Bool.{true≢false, cond-true, le-leb}
-use Rattle.refusals.specs.Refusals.{Notice, no_room}
+use Rattle.std.specs.Result.{IsErrAnd, MatchResult}
+use Rattle.std.proofs.lemmas.Result.{err_from_is_err_and}
+use Rattle.refusals.specs.Refusals.{Notice, no_room, notice}
+use Rattle.refusals.specs.declared.refusal.Refusal.{Refusal}
+use Rattle.refusals.specs.Causes.{cause_number}
+use Rattle.refusals.specs.declared.refusal.Cause.{Cause}
+use Rattle.refusals.specs.declared.refusal.Cause.TheVariants.{LongPayload, NoSlot, NoOctets, NoRow, EntryLimit, OctetLimit}
 use Rattle.refusals.specs.declared.refusal.RoomFault.{RoomFault}
 use Rattle.spool.specs.Entries.{Entry}
+use Rattle.spool.specs.Meanings.{Meaning}
 use Rattle.spool.specs.Rules.{opens}
-use Rattle.filing.specs.Lots.{Declined, nowhere, busy, full, Turned}
+use Rattle.filing.specs.Lots.{Declined, nowhere, busy, full, Turned, Files}
 use Rattle.protocol.specs.declared.reply.Reply.{Reply}
 use Rattle.ends.specs.declared.faults.EndFault.{EndFault}
 use Rattle.ends.specs.declared.faults.EndFault.TheVariants.{Room, Ledger}
-use Rattle.ends.specs.Ends.{smtp_starts}
+use Rattle.ends.specs.Ends.{starts}
 use Rattle.ends.specs.Faults.{reply_of}
 use Rattle.ends.specs.Filing.{kept, Answered, answered_turned, answered-ledger}
-use Rattle.ends.specs.Steps.{Alone}
+use Rattle.ends.specs.Steps.{Alone, OneLot}
+
+-- A cause is known by its number.
+abbrev numbered : ℕ → Cause
+numbered (suc zero) = LongPayload
+numbered (suc (suc zero)) = NoSlot
+numbered (suc (suc (suc zero))) = NoOctets
+numbered (suc (suc (suc (suc zero)))) = NoRow
+numbered (suc (suc (suc (suc (suc zero))))) = EntryLimit
+numbered n = OctetLimit
+
+cause_is : (c : Cause) → numbered (cause_number c) ≡ c
+cause_is LongPayload = refl
+cause_is NoSlot = refl
+cause_is NoOctets = refl
+cause_is NoRow = refl
+cause_is EntryLimit = refl
+cause_is OctetLimit = refl
 
 pub same-fault : (f g : RoomFault) → no_room f ≡ no_room g → f ≡ g
 same-fault f g e =
     let v = ap (λ (n : Notice). n.values) e in
     let a : f.layer ≡ g.layer = cc in
-    let b : f.cause ≡ g.cause = cc in
-    ap (λ (x : ℕ). record { layer = x; cause = f.cause }) a ∙ ap (λ (x : ℕ). record { layer = g.layer; cause = x }) b
+    let n : cause_number f.cause ≡ cause_number g.cause = cc in
+    let b : f.cause ≡ g.cause = sym (cause_is f.cause) ∙ ap numbered n ∙ cause_is g.cause in
+    ap (λ (x : ℕ). record { layer = x; cause = f.cause }) a ∙ ap (λ (x : Cause). record { layer = g.layer; cause = x }) b
 
 pub none_open : (l : Option (List Entry)) → false ≡ is_some l → l ≡ None
 none_open None e = refl
 none_open (Some es) e = absurd (true≢false (sym e))
 
 -- An end that starts.
-pub starts_idle : (n : ℕ) (l : Option (List Entry)) → n ≤ 100 → l ≡ None → Ok tt ≡ smtp_starts n l
+pub starts_idle : (n : ℕ) (l : Option (List Entry)) → n ≤ 100 → l ≡ None → Ok tt ≡ starts n l
 starts_idle n l h i = sym (cond-true (leb n 100) _ _ (le-leb n 100 h) ∙ ap opens i)
 
 -- A fault is not answered 250.
@@ -34,14 +59,24 @@ pub kept-fault : (e : Entry) (f : EndFault) (b : Reply) → b ≡ reply_of f →
 kept-fault e (Room f) b q = ap (kept e) (sym q)
 kept-fault e Ledger b q = ap (kept e) (sym q)
 
-module _ {S : Type 0} (held : S → List Entry) (lot : S → Option (List Entry)) (room : S → ℕ → ℕ → Option RoomFault) where
+module _ {S : Type 0} (sp : Meaning S) where
   -- An entry for a mailbox that there is, while no lot is open, is declined for want of room alone.
-  pub declined : (s s' : S) (e : Entry) (n : Notice) → e.mailbox < 64 → lot s ≡ None → Declined held lot room s s' e n → (f : RoomFault) × ((n ≡ no_room f) × Turned held lot room s s' e f)
+  pub declined : (s s' : S) (e : Entry) (n : Notice) → e.mailbox < 64 → sp.lot s ≡ None → Declined sp s s' e n → (f : RoomFault) × ((n ≡ no_room f) × Turned sp s s' e f)
   declined s s' e n m i (nowhere a q) = absurd (omega arith)
   declined s s' e n m i (busy a o q) = absurd (true≢false (sym o ∙ ap is_some i))
   declined s s' e n m i (full a f t) = (f, (refl, t))
 
-module _ {S : Type 0} (held : S → List Entry) (lot : S → Option (List Entry)) (room : S → ℕ → ℕ → Option RoomFault) (counts : ℕ → ℕ) where
-  pub answered-fault : (s s' : S) (e : Entry) (f : EndFault) (b : Reply) → b ≡ reply_of f → Alone held lot room counts s s' e (Err f) → Answered held lot room counts s e b s'
+  -- A refusal to file is handed on as the fault that it carries.
+  pub one_lot : (s s' : S) (e : Entry) (r : Result (Unit {0}) Refusal) (q : Result (Unit {0}) RoomFault) (P : Refusal → RoomFault → Type 0) → e.mailbox < 64 → sp.lot s ≡ None → Files sp s s' e r →
+      MatchResult r (λ x. q ≡ Ok x) (λ x. IsErrAnd q (P x)) → ((x : Refusal) (f : RoomFault) → P x f → notice x ≡ no_room f) → OneLot sp s s' e q
+  one_lot s s' e (Ok u) q P m i files cases says = subst (OneLot sp s s' e) (sym cases) files.1
+  one_lot s s' e (Err x) q P m i files cases says =
+      let d = declined s s' e (notice x) m i files in
+      let k = err_from_is_err_and q cases in
+      let f : d.0 ≡ k.0 = same-fault d.0 k.0 (sym d.1.0 ∙ says x k.0 k.2) in
+      subst (OneLot sp s s' e) (sym k.1) (subst (Turned sp s s' e) f d.1.1)
+
+module _ {S : Type 0} (sp : Meaning S) (counts : ℕ → ℕ) where
+  pub answered-fault : (s s' : S) (e : Entry) (f : EndFault) (b : Reply) → b ≡ reply_of f → Alone sp counts s s' e (Err f) → Answered sp counts s e b s'
   answered-fault s s' e (Room f) b q h = answered_turned f q h.0 h.1
   answered-fault s s' e Ledger b q h = answered-ledger q h.0 h.1

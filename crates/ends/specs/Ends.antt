@@ -1,8 +1,8 @@
 -- What the end of a message comes to, in SMTP and in LMTP: the spool, the ledger and the replies.
 use Rattle.std.specs.Prelude.{◌≡◌, ℕ, cond, List, ◌++◌, length, None, Ok, Err, Option, Result, nat_le}
 use Rattle.refusals.specs.Refusals.{Notice, plain}
-use Rattle.refusals.specs.declared.refusal.RoomFault.{RoomFault}
 use Rattle.spool.specs.Entries.{Entry}
+use Rattle.spool.specs.Meanings.{Meaning}
 use Rattle.spool.specs.Rules.{opens}
 use Rattle.protocol.specs.declared.reply.Reply.{Reply}
 use Rattle.protocol.specs.declared.reply.Reply.TheVariants.{Done}
@@ -12,34 +12,30 @@ use Rattle.ends.specs.Faults.{reply_of}
 use Rattle.ends.specs.Filing.{accepted, FiledEach, Together, Spoilt}
 use Rattle.ends.specs.Ledgers.{counts_of, Counted}
 
--- An end is refused where the recipients are more than 100 or the replies fewer than the recipients (5), or a lot is
--- open (10), in this order.
-abbrev pub smtp_starts : ℕ → Option (List Entry) → Result (Unit {0}) Notice
-smtp_starts recipients l = cond (nat_le recipients 100) (opens l) (Err (plain 5))
-
-abbrev pub lmtp_starts : ℕ → ℕ → Option (List Entry) → Result (Unit {0}) Notice
-lmtp_starts recipients replies l = cond (nat_le recipients replies) (smtp_starts recipients l) (Err (plain 5))
+-- An end is refused where the recipients are more than 100 (5), or a lot is open (10), in this order.
+abbrev pub starts : ℕ → Option (List Entry) → Result (Unit {0}) Notice
+starts recipients l = cond (nat_le recipients 100) (opens l) (Err (plain 5))
 
 -- Whether a call is refused, and how, whatever else it answers.
 abbrev pub begun : {T : Type 0} → Result T Notice → Result (Unit {0}) Notice
 begun (Ok x) = Ok tt
 begun (Err n) = Err n
 
-module _ {S : Type 0} (held : S → List Entry) (lot : S → Option (List Entry)) (room : S → ℕ → ℕ → Option RoomFault) (l l' : Ledger) (s s' : S) (es : List Entry) where
+module _ {S : Type 0} (sp : Meaning S) (l l' : Ledger) (s s' : S) (es : List Entry) where
   -- All entries are filed together, and counted.
   pub record AllFiled : Type 0 where
-    pub filing : Together held lot room (counts_of l) s s' es
-    pub holds : held s' ≡ held s ++ es
-    pub ended : lot s' ≡ None
+    pub filing : Together sp (counts_of l) s s' es
+    pub holds : sp.held s' ≡ sp.held s ++ es
+    pub ended : sp.lot s' ≡ None
     pub counts : Counted l l' es
 
   -- None is filed, since one has a fault, which is the answer.
   pub record NoneFiled (b : Reply) : Type 0 where
     pub fault : EndFault
     pub says : b ≡ reply_of fault
-    pub filing : Spoilt held lot room (counts_of l) s s' es fault
-    pub holds : held s' ≡ held s
-    pub ended : lot s' ≡ None
+    pub filing : Spoilt sp (counts_of l) s s' es fault
+    pub holds : sp.held s' ≡ sp.held s
+    pub ended : sp.lot s' ≡ None
     pub counts : l' ≡ l
 
   -- An SMTP end: 250 where all entries are filed, and else the first fault.
@@ -49,8 +45,8 @@ module _ {S : Type 0} (held : S → List Entry) (lot : S → Option (List Entry)
 
   -- An LMTP end: each entry is filed or not by itself, and has a reply. Those that were answered 250 are held and counted.
   pub record EachFiled (bs : List Reply) : Type 0 where
-    pub filing : FiledEach held lot room (counts_of l) s es bs s'
+    pub filing : FiledEach sp (counts_of l) s es bs s'
     pub one_each : length bs ≡ length es
-    pub holds : held s' ≡ held s ++ accepted es bs
-    pub ended : lot s' ≡ None
+    pub holds : sp.held s' ≡ sp.held s ++ accepted es bs
+    pub ended : sp.lot s' ≡ None
     pub counts : Counted l l' (accepted es bs)

@@ -1,7 +1,7 @@
 ghost use Rattle.std.specs.Prelude.{◌≡◌, ℕ, ◌%◌, ◌<◌, ◌≤◌, [], ◌∷◌, map, length, replicate, nat_lt};
 ghost use Rattle.ends.specs.Filing.{entry};
 ghost use Rattle.ends.specs.Steps.{Admits};
-ghost use Rattle.ends.specs.Ledgers.{Collected, Counted, after_collection, counts_of, most, tells_count};
+ghost use Rattle.ends.specs.Ledgers.{Collected, Counted, after_collection, counts_of, most, tells_counts};
 ghost use Rattle.refusals.specs.Refusals.{told};
 
 use refusals::refusal::Refusal;
@@ -12,42 +12,38 @@ const MOST_FILED: u32 = 999_999_899;
 // Past this, collections are no more counted.
 const MOST_COLLECTED: u32 = 999_999_999;
 
-// For each mailbox, how many entries were filed, and how many were collected.
+// How many entries were filed for a mailbox, and how many were collected.
+#[derive(Clone, Copy, PartialEq, Eq, Debug)]
+pub struct Counts {
+    pub filed: u32,
+    pub collected: u32,
+}
+
+// The counts of each mailbox.
 #[derive(Clone, Copy)]
 pub struct Ledger {
-    filed: [u32; 64],
-    collected: [u32; 64],
+    counts: [Counts; 64],
 }
 
 impl Ledger {
     pub fn new() -> Ledger
-        ensures filed { result.filed ≡ replicate 64 0 }
-        ensures collected { result.collected ≡ replicate 64 0 }
+        ensures { result.counts ≡ replicate 64 (record { filed = 0; collected = 0 }) }
     {
-        Ledger {
-            filed: [0; 64],
-            collected: [0; 64],
-        }
+        let none = Counts {
+            filed: 0,
+            collected: 0,
+        };
+        Ledger { counts: [none; 64] }
     }
 
-    // How many entries were filed for a mailbox.
-    pub fn filed(&self, mailbox: usize) -> Result<u32, Refusal>
-        ensures { told result ≡ tells_count self.now.filed mailbox }
+    // What was counted for a mailbox.
+    pub fn counts(&self, mailbox: usize) -> Result<Counts, Refusal>
+        ensures { told result ≡ tells_counts self.now mailbox }
     {
-        if mailbox > 63 {
-            return Err(Refusal::NoSuchMailbox);
-        }
-        Ok(self.filed[mailbox])
-    }
-
-    // How many entries were collected for a mailbox.
-    pub fn collected(&self, mailbox: usize) -> Result<u32, Refusal>
-        ensures { told result ≡ tells_count self.now.collected mailbox }
-    {
-        if mailbox > 63 {
-            return Err(Refusal::NoSuchMailbox);
-        }
-        Ok(self.collected[mailbox])
+        self.counts
+            .get(mailbox)
+            .copied()
+            .ok_or(Refusal::NoSuchMailbox)
     }
 
     // Counts an entry as collected.
@@ -58,14 +54,15 @@ impl Ledger {
         if mailbox > 63 {
             return;
         }
-        self.collected[mailbox] = self.collected[mailbox].min(MOST_COLLECTED - 1) + 1;
+        let collected = self.counts[mailbox].collected;
+        self.counts[mailbox].collected = collected.min(MOST_COLLECTED - 1) + 1;
     }
 
     // Whether a recipient's mailbox has been filed too many to be filed more.
     pub(crate) fn is_full(&self, recipient: usize) -> bool
         ensures { result ≡ nat_lt most (counts_of self.now (recipient % 64)) }
     {
-        self.filed[recipient % 64] > MOST_FILED
+        self.counts[recipient % 64].filed > MOST_FILED
     }
 
     // Counts an entry as filed for a recipient.
@@ -73,7 +70,7 @@ impl Ledger {
         requires { counts_of self.old (recipient % 64) < 4294967295 }
         ensures { Counted self.old self.new (entry [] recipient ∷ []) }
     {
-        self.filed[recipient % 64] += 1;
+        self.counts[recipient % 64].filed += 1;
     }
 
     // Counts an entry as filed for each recipient.

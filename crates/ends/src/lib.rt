@@ -5,4 +5,5 @@ pub mod faults;
 pub mod ledger;
 pub mod lmtp;
 mod lot;
+pub mod message;
 pub mod smtp;

@@ -8,7 +8,7 @@ use refusals::refusal::{Refusal, RoomFault};
 use spool::interface::Spool;
 use spool::ticket::{Ticket, stage};
 
-// The fault in a refusal for want of room.
+// The fault in a refusal for want of room. Other refusals have none, so that this is no conversion of every refusal.
 fn fault_of(refusal: Refusal) -> RoomFault
     requires { (notice refusal).number ≡ 12 }
     ensures { notice refusal ≡ no_room result }
@@ -27,29 +27,21 @@ pub(crate) fn stage_one<S: Spool>(
     payload: &[u8],
 ) -> Result<(), RoomFault>
     requires { is_some (S.Spool.lot spool.old) ≡ true }
-    ensures tried { Tried S.Spool.held S.Spool.lot S.Spool.room spool.old spool.new (entry payload.now recipient) result }
+    ensures tried { Tried S.Spool spool.old spool.new (entry payload.now recipient) result }
     ensures floor { S.Spool.floor spool.new ≡ S.Spool.floor spool.old }
-    ensures within { S.Spool.within spool.old → S.Spool.within spool.new }
 {
-    match stage(spool, ticket, recipient % 64, payload) {
-        Ok(()) => Ok(()),
-        Err(refusal) => Err(fault_of(refusal)),
-    }
+    stage(spool, ticket, recipient % 64, payload).map_err(fault_of)
 }
 
-// Files a recipient's entry in a lot of its own.
+// Files a recipient's entry in a lot of its own. It has another call and another promise than `stage_one`.
 pub(crate) fn file_one<S: Spool>(
     spool: &mut S,
     recipient: usize,
     payload: &[u8],
 ) -> Result<(), RoomFault>
     requires { S.Spool.lot spool.old ≡ None }
-    ensures lot { OneLot S.Spool.held S.Spool.lot S.Spool.room spool.old spool.new (entry payload.now recipient) result }
+    ensures lot { OneLot S.Spool spool.old spool.new (entry payload.now recipient) result }
     ensures floor { S.Spool.floor spool.new ≡ S.Spool.floor spool.old }
-    ensures within { S.Spool.within spool.old → S.Spool.within spool.new }
 {
-    match file(spool, recipient % 64, payload) {
-        Ok(()) => Ok(()),
-        Err(refusal) => Err(fault_of(refusal)),
-    }
+    file(spool, recipient % 64, payload).map_err(fault_of)
 }

@@ -1,5 +1,5 @@
 ghost use Rattle.std.specs.Prelude.{◌≡◌, ℕ, true, false, map, length, is_some, is_ok, IfOk};
-ghost use Rattle.ends.specs.Ends.{SmtpEnd, begun, smtp_starts};
+ghost use Rattle.ends.specs.Ends.{SmtpEnd, begun, starts};
 ghost use Rattle.ends.specs.Filing.{entry};
 ghost use Rattle.ends.specs.Steps.{Staging};
 ghost use Rattle.ends.specs.Ledgers.{counts_of};
@@ -8,6 +8,7 @@ ghost use Rattle.refusals.specs.Refusals.{told};
 use crate::faults::EndFault;
 use crate::ledger::Ledger;
 use crate::lot::stage_one;
+use crate::message::Message;
 use protocol::reply::Reply;
 use refusals::refusal::Refusal;
 use spool::interface::Spool;
@@ -18,45 +19,40 @@ fn stage_all<S: Spool>(
     spool: &mut S,
     ticket: &Ticket,
     ledger: &Ledger,
-    recipients: &[usize],
-    payload: &[u8],
+    message: &Message<'_>,
 ) -> Result<(), EndFault>
     requires { is_some (S.Spool.lot spool.old) ≡ true }
-    ensures staging { Staging S.Spool.held S.Spool.lot S.Spool.room (counts_of ledger.now) spool.old spool.new (map (entry payload.now) recipients.now) result }
+    ensures staging { Staging S.Spool (counts_of ledger.now) spool.old spool.new (map (entry message.now.payload.now) message.now.recipients.now) result }
     ensures floor { S.Spool.floor spool.new ≡ S.Spool.floor spool.old }
-    ensures within { S.Spool.within spool.old → S.Spool.within spool.new }
 {
-    for r in recipients {
+    for r in message.recipients {
         if ledger.is_full(*r) {
             return Err(EndFault::Ledger);
         }
-        stage_one(spool, ticket, *r, payload)?;
+        stage_one(spool, ticket, *r, message.payload)?;
     }
     Ok(())
 }
 
-// Ends an SMTP message: one lot and one reply for all recipients. A recipient record stands for the mailbox that it is
-// modulo 64.
+// Ends an SMTP message: one lot and one reply for all recipients.
 pub fn smtp_end<S: Spool>(
     spool: &mut S,
     ledger: &mut Ledger,
-    recipients: &[usize],
-    payload: &[u8],
+    message: &Message<'_>,
 ) -> Result<Reply, Refusal>
-    ensures answer { begun (told result) ≡ smtp_starts (length recipients.now) (S.Spool.lot spool.old) }
+    ensures answer { begun (told result) ≡ starts (length message.now.recipients.now) (S.Spool.lot spool.old) }
     ensures refused { is_ok result ≡ false → (spool.new ≡ spool.old) × (ledger.new ≡ ledger.old) }
-    ensures end { IfOk result (SmtpEnd S.Spool.held S.Spool.lot S.Spool.room ledger.old ledger.new spool.old spool.new (map (entry payload.now) recipients.now)) }
+    ensures end { IfOk result (SmtpEnd S.Spool ledger.old ledger.new spool.old spool.new (map (entry message.now.payload.now) message.now.recipients.now)) }
     ensures floor { S.Spool.floor spool.new ≡ S.Spool.floor spool.old }
-    ensures within { S.Spool.within spool.old → S.Spool.within spool.new }
 {
-    if recipients.len() > 100 {
+    if message.recipients.len() > 100 {
         return Err(Refusal::BadSheet);
     }
     let ticket = open(spool)?;
-    match stage_all(spool, &ticket, ledger, recipients, payload) {
+    match stage_all(spool, &ticket, ledger, message) {
         Ok(()) => {
             let _ = commit(spool, ticket);
-            ledger.note_all(recipients);
+            ledger.note_all(message.recipients);
             Ok(Reply::Done)
         }
         Err(fault) => {

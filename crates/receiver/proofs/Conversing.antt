@@ -6,10 +6,9 @@ use Rattle.ends.specs.declared.ledger.Ledger.{Ledger}
 use Rattle.protocol.specs.Outputs.{overlaid}
 use Rattle.protocol.specs.Replies.{octets_of as wired}
 use Rattle.protocol.specs.declared.reply.Reply.{Reply}
-use Rattle.refusals.specs.declared.refusal.RoomFault.{RoomFault}
 use Rattle.session.specs.Queues.{first, waits}
 use Rattle.session.specs.declared.waiting.Waiting.{Waiting}
-use Rattle.spool.specs.Entries.{Entry}
+use Rattle.spool.specs.Meanings.{Meaning}
 use Rattle.receiver.specs.Moments.{Moment, Paced, Told, Went, advanced, moment}
 use Rattle.receiver.specs.Turns.{filed_by}
 use Rattle.receiver.specs.declared.seat.Seat.{Seat}
@@ -41,18 +40,18 @@ module _ (out xs : List ℕ) (at : ℕ) (fit : at + length xs ≤ length out) wh
   pub over-before : take at (overlaid out at xs) ≡ take at out
   over-before = take_at (take at out) (xs ++ drop (at + length xs) out) at (length-take-le at out (omega arith))
 
-module _ {S : Type 0} (held : S → List Entry) (lot : S → Option (List Entry)) (room : S → ℕ → ℕ → Option RoomFault) (name : List ℕ) (find : List ℕ → List ℕ → Option ℕ) where
+module _ {S : Type 0} (sp : Meaning S) (name : List ℕ) (find : List ℕ → List ℕ → Option ℕ) where
   pub record Conversing (m m' : Moment S) (input was output : List ℕ) (taken written : ℕ) : Type 0 where
     pub some_written : written ≤ length output
     pub some_taken : taken ≤ length input
     pub wide : length m'.area ≡ m'.seat.size
     pub size-stays : m'.seat.size ≡ m.seat.size
-    pub idle : lot m'.spool ≡ None
+    pub idle : sp.lot m'.spool ≡ None
     pub tail : drop written output ≡ drop written was
-    pub told : Told held lot room name find m m' (take taken input) (take written output)
-    pub paced : length output < written + 256 → Paced held lot room name find m m' (take taken input) output written
+    pub told : Told sp name find m m' (take taken input) (take written output)
+    pub paced : length output < written + 256 → Paced sp name find m m' (take taken input) output written
 
-  pub conversing_none : (m : Moment S) (input output : List ℕ) → 256 ≤ length output → length m.area ≡ m.seat.size → lot m.spool ≡ None → Conversing m m input output output 0 0
+  pub conversing_none : (m : Moment S) (input output : List ℕ) → 256 ≤ length output → length m.area ≡ m.seat.size → sp.lot m.spool ≡ None → Conversing m m input output output 0 0
   conversing_none m input output h w i = record {
     some_written = omega arith;
     some_taken = omega arith;
@@ -60,12 +59,12 @@ module _ {S : Type 0} (held : S → List Entry) (lot : S → Option (List Entry)
     size-stays = refl;
     idle = i;
     tail = refl;
-    told = told_none held lot room name find m;
+    told = told_none sp name find m;
     paced = λ p. absurd (omega arith);
   }
 
   abbrev passed : Seat → Waiting → Seat
-  passed x v = record { live = x.live; kind = x.kind; size = x.size; session = x.session; waiting = v }
+  passed x v = record { kind = x.kind; size = x.size; session = x.session; waiting = v }
 
   pub conversing_write : (m : Moment S) (x : Seat) (v : Waiting) (l : Ledger) (area sheet : List ℕ) (s : S) (r : Reply) (input was output output' : List ℕ) (taken written end : ℕ) →
       Conversing m (moment x l area sheet s) input was output taken written → written + 256 ≤ length output → Some r ≡ first (waits x.waiting) → waits v ≡ drop 1 (waits x.waiting) →
@@ -82,9 +81,9 @@ module _ {S : Type 0} (held : S → List Entry) (lot : S → Option (List Entry)
       let front : take end output' ≡ take written output ++ xs = ap (λ (n : ℕ). take n output') ee' ∙ ap (take (written + length xs)) eo' ∙ over_front output xs written fit in
       let e = first_some (waits x.waiting) r f in
       let took = take taken input in
-      let T : List ℕ → Type 0 = λ z. Told held lot room name find m m₂ z (take end output') in
-      let U : List ℕ → Type 0 = λ z. Told held lot room name find m m₂ (took ++ []) z in
-      let write = told_write held lot room name find x v r (drop 1 (waits x.waiting)) l area sheet s e p in
+      let T : List ℕ → Type 0 = λ z. Told sp name find m m₂ z (take end output') in
+      let U : List ℕ → Type 0 = λ z. Told sp name find m m₂ (took ++ []) z in
+      let write = told_write sp name find x v r (drop 1 (waits x.waiting)) l area sheet s e p in
       record {
         some_written = le;
         some_taken = c.some_taken;
@@ -94,7 +93,7 @@ module _ {S : Type 0} (held : S → List Entry) (lot : S → Option (List Entry)
         tail =
             ap (λ (n : ℕ). drop n output') ee' ∙ ap (drop (written + length xs)) eo' ∙ over-tail output xs written fit
             ∙ sym (drop-drop (length xs) written output) ∙ ap (drop (length xs)) c.tail ∙ drop-drop (length xs) written was ∙ ap (λ (n : ℕ). drop n was) (sym ee');
-        told = subst T (append-nil took) (subst U (sym front) (told_more held lot room name find m m₁ m₂ took [] (take written output) xs c.told write));
+        told = subst T (append-nil took) (subst U (sym front) (told_more sp name find m m₁ m₂ took [] (take written output) xs c.told write));
         paced = λ _. record {
           before = written;
           reply = r;
@@ -102,19 +101,19 @@ module _ {S : Type 0} (held : S → List Entry) (lot : S → Option (List Entry)
           whole = front ∙ ap (λ (z : List ℕ). z ++ xs) (sym (ap (take written) eo' ∙ over-before output xs written fit));
           rests = λ k filed ft cs i.
               let o = c.told.at k filed ft cs i in
-              let q = went_write held lot room name find x v r (drop 1 (waits x.waiting)) l area sheet s e p (advanced k o.place o.rest o.turns (take written output)) (filed ++ flat_map filed_by o.turns) o.fits o.counts o.idle in
-              let b = went_both held lot room name find k filed m m₁ m₂ took [] (take written output) xs o q.0 in
-              let W : List ℕ → Type 0 = λ z. (w : Went held lot room name find k filed m m₂ z (take end output')) × (w.rest ≡ []) in
-              let V : List ℕ → Type 0 = λ z. (w : Went held lot room name find k filed m m₂ (took ++ []) z) × (w.rest ≡ []) in
+              let q = went_write sp name find x v r (drop 1 (waits x.waiting)) l area sheet s e p (advanced k o.place o.rest o.turns (take written output)) (filed ++ flat_map filed_by o.turns) o.fits o.counts o.idle in
+              let b = went_both sp name find k filed m m₁ m₂ took [] (take written output) xs o q.0 in
+              let W : List ℕ → Type 0 = λ z. (w : Went sp name find k filed m m₂ z (take end output')) × (w.rest ≡ []) in
+              let V : List ℕ → Type 0 = λ z. (w : Went sp name find k filed m m₂ (took ++ []) z) × (w.rest ≡ []) in
               subst W (append-nil took) (subst V (sym front) (b.0, b.1 ∙ q.1));
         };
       }
 
   pub conversing_step : (m m₁ m₂ : Moment S) (input was output : List ℕ) (taken written n : ℕ) → Conversing m m₁ input was output taken written → written + 256 ≤ length output → n ≤ length (drop taken input) → taken + n ≤ length input →
-      m₂.seat.size ≡ m₁.seat.size → length m₂.area ≡ length m₁.area → lot m₂.spool ≡ None → Told held lot room name find m₁ m₂ (take n (drop taken input)) [] → Conversing m m₂ input was output (taken + n) written
+      m₂.seat.size ≡ m₁.seat.size → length m₂.area ≡ length m₁.area → sp.lot m₂.spool ≡ None → Told sp name find m₁ m₂ (take n (drop taken input)) [] → Conversing m m₂ input was output (taken + n) written
   conversing_step m m₁ m₂ input was output taken written n c space le sum sz wd i t =
-      let T : List ℕ → Type 0 = λ z. Told held lot room name find m m₂ z (take written output) in
-      let U : List ℕ → Type 0 = λ z. Told held lot room name find m m₂ (take taken input ++ take n (drop taken input)) z in
+      let T : List ℕ → Type 0 = λ z. Told sp name find m m₂ z (take written output) in
+      let U : List ℕ → Type 0 = λ z. Told sp name find m m₂ (take taken input ++ take n (drop taken input)) z in
       record {
         some_written = c.some_written;
         some_taken = sum;
@@ -122,6 +121,6 @@ module _ {S : Type 0} (held : S → List Entry) (lot : S → Option (List Entry)
         size-stays = sz ∙ c.size-stays;
         idle = i;
         tail = c.tail;
-        told = subst T (sym (take-add taken n input)) (subst U (append-nil (take written output)) (told_more held lot room name find m m₁ m₂ (take taken input) (take n (drop taken input)) (take written output) [] c.told t));
+        told = subst T (sym (take-add taken n input)) (subst U (append-nil (take written output)) (told_more sp name find m m₁ m₂ (take taken input) (take n (drop taken input)) (take written output) [] c.told t));
         paced = λ p. absurd (omega arith);
       }

@@ -1,5 +1,5 @@
 -- How the outcome of a turn is settled.
-use Rattle.std.proofs.Common.{◌≡◌, ℕ, zero, suc, ◌%◌, ◌<◌, ◌≤◌, List, [], ◌∷◌, map, length, take, replicate, Some, None, Option, sym, refl, ap, ◌∙◌, subst, arith}
+use Rattle.std.proofs.Common.{◌≡◌, ℕ, zero, suc, ◌%◌, ◌<◌, ◌≤◌, List, [], ◌∷◌, map, length, take, replicate, Some, None, sym, refl, ap, ◌∙◌, subst, arith}
 use Rattle.std.proofs.lemmas.List.{append-nil}
 use Rattle.ends.specs.Ends.{SmtpEnd, all_filed, none-filed}
 use Rattle.ends.specs.Filing.{entry}
@@ -9,12 +9,12 @@ use Rattle.ends.proofs.Carrying.{each-carries, entries_there, spoilt_carries, to
 use Rattle.judgement.specs.declared.phase.Kind.{Kind}
 use Rattle.judgement.specs.declared.phase.Kind.TheVariants.{Smtp, Lmtp}
 use Rattle.protocol.specs.declared.reply.Reply.{Reply}
-use Rattle.refusals.specs.declared.refusal.RoomFault.{RoomFault}
 use Rattle.session.specs.Places.{mailboxes}
 use Rattle.session.specs.Queues.{waits}
 use Rattle.session.specs.Turns.{Outcome, answered, ends}
 use Rattle.session.specs.declared.waiting.Waiting.{Waiting}
 use Rattle.spool.specs.Entries.{Entry}
+use Rattle.spool.specs.Meanings.{Meaning}
 use Rattle.receiver.specs.Ending.{Ended, Settled}
 use Rattle.receiver.specs.Settling as settling
 use Rattle.receiver.specs.Settling.{Files, FilesAll, FilesEach, Replies, Settles, too_large}
@@ -36,11 +36,11 @@ all_the_same x [] k h = refl
 all_the_same x (r ∷ rs) zero h = absurd (omega arith)
 all_the_same x (r ∷ rs) (suc k) h = ap (λ (xs : List Reply). x ∷ xs) (all_the_same x rs k (omega arith))
 
-module _ {S : Type 0} (held : S → List Entry) (lot : S → Option (List Entry)) (room : S → ℕ → ℕ → Option RoomFault) (l l' : Ledger) (s s' : S) where
-  pub smtp_ended : (rs p : List ℕ) (b : Reply) (w : Waiting) → SmtpEnd held lot room l l' s s' (map (entry p) rs) b → waits w ≡ b ∷ [] → Ended held lot room Smtp l l' s s' rs p w
+module _ {S : Type 0} (sp : Meaning S) (l l' : Ledger) (s s' : S) where
+  pub smtp_ended : (rs p : List ℕ) (b : Reply) (w : Waiting) → SmtpEnd sp l l' s s' (map (entry p) rs) b → waits w ≡ b ∷ [] → Ended sp Smtp l l' s s' rs p w
   smtp_ended rs p b w (all_filed e f) ww =
       let es = map (entry p) rs in
-      let P : List Reply → Type 0 = λ v. FilesAll held lot room (counts_of l) s s' es v es in
+      let P : List Reply → Type 0 = λ v. FilesAll sp (counts_of l) s s' es v es in
       record {
         filed = es;
         files = subst P (sym (ww ∙ ap (λ (x : Reply). x ∷ []) e)) (settling.all_filed f.filing);
@@ -50,19 +50,19 @@ module _ {S : Type 0} (held : S → List Entry) (lot : S → Option (List Entry)
       }
   smtp_ended rs p b w (none-filed f) ww =
       let es = map (entry p) rs in
-      let P : List Reply → Type 0 = λ v. FilesAll held lot room (counts_of l) s s' es v [] in
+      let P : List Reply → Type 0 = λ v. FilesAll sp (counts_of l) s s' es v [] in
       let C : Ledger → Type 0 = λ v. Counted l v [] in
       record {
         filed = [];
         files = subst P (sym (ww ∙ ap (λ (x : Reply). x ∷ []) f.says)) (settling.none-filed f.fault f.filing);
-        holds = f.holds ∙ sym (append-nil (held s));
+        holds = f.holds ∙ sym (append-nil (sp.held s));
         idle = f.ended;
         counts = subst C (sym f.counts) (counted_none l);
       }
 
-  pub settled_ended : (kind : Kind) (rs p q : List ℕ) (w : Waiting) → q ≡ p → Ended held lot room kind l l' s s' rs q w → Settled held lot room kind l l' s s' (ends (mailboxes rs) (Some p)) w
+  pub settled_ended : (kind : Kind) (rs p q : List ℕ) (w : Waiting) → q ≡ p → Ended sp kind l l' s s' rs q w → Settled sp kind l l' s s' (ends (mailboxes rs) (Some p)) w
   settled_ended kind rs p q w e d =
-      let F : List Entry → Type 0 = λ es. Files held lot room (counts_of l) s s' kind es (waits w) d.filed in
+      let F : List Entry → Type 0 = λ es. Files sp (counts_of l) s s' kind es (waits w) d.filed in
       record {
         filed = d.filed;
         settles = subst F (ap (λ (v : List ℕ). map (entry v) rs) e ∙ sym (entries_same p rs)) d.files;
@@ -72,21 +72,21 @@ module _ {S : Type 0} (held : S → List Entry) (lot : S → Option (List Entry)
       }
 
 -- Nothing is filed.
-module _ {S : Type 0} (held : S → List Entry) (lot : S → Option (List Entry)) (room : S → ℕ → ℕ → Option RoomFault) (l : Ledger) (s : S) where
-  pub settled_large : (kind : Kind) (rs : List ℕ) (w : Waiting) → lot s ≡ None → waits w ≡ too_large kind rs → Settled held lot room kind l l s s (ends rs None) w
-  settled_large kind rs w i e = record { filed = []; settles = record { says = e; none = refl; same = refl }; holds = sym (append-nil (held s)); idle = i; counts = counted_none l }
+module _ {S : Type 0} (sp : Meaning S) (l : Ledger) (s : S) where
+  pub settled_large : (kind : Kind) (rs : List ℕ) (w : Waiting) → sp.lot s ≡ None → waits w ≡ too_large kind rs → Settled sp kind l l s s (ends rs None) w
+  settled_large kind rs w i e = record { filed = []; settles = record { says = e; none = refl; same = refl }; holds = sym (append-nil (sp.held s)); idle = i; counts = counted_none l }
 
-  pub settled_answer : (kind : Kind) (r : Reply) (w : Waiting) → lot s ≡ None → waits w ≡ r ∷ [] → Settled held lot room kind l l s s (answered r) w
-  settled_answer kind r w i e = record { filed = []; settles = record { says = e; none = refl; same = refl }; holds = sym (append-nil (held s)); idle = i; counts = counted_none l }
+  pub settled_answer : (kind : Kind) (r : Reply) (w : Waiting) → sp.lot s ≡ None → waits w ≡ r ∷ [] → Settled sp kind l l s s (answered r) w
+  settled_answer kind r w i e = record { filed = []; settles = record { says = e; none = refl; same = refl }; holds = sym (append-nil (sp.held s)); idle = i; counts = counted_none l }
 
 -- The counts of the ledger and those of a tally that agree below 64 settle alike.
-module _ {S : Type 0} (held : S → List Entry) (lot : S → Option (List Entry)) (room : S → ℕ → ℕ → Option RoomFault) (c d : ℕ → ℕ) (same : (m : ℕ) → m < 64 → c m ≡ d m) (s s' : S) where
-  files_carry : (kind : Kind) (p rs : List ℕ) (bs : List Reply) (fs : List Entry) → Files held lot room c s s' kind (map (entry p) rs) bs fs → Files held lot room d s s' kind (map (entry p) rs) bs fs
-  files_carry Smtp p rs bs fs (settling.all_filed t) = settling.all_filed (together_carries held lot room c d same s s' (map (entry p) rs) (entries_there p rs) t)
-  files_carry Smtp p rs bs fs (settling.none-filed f t) = settling.none-filed f (spoilt_carries held lot room c d same s s' (map (entry p) rs) f (entries_there p rs) t)
-  files_carry Lmtp p rs bs fs h = record { each = each-carries held lot room c d same s s' (map (entry p) rs) bs (entries_there p rs) h.each; those = h.those }
+module _ {S : Type 0} (sp : Meaning S) (c d : ℕ → ℕ) (same : (m : ℕ) → m < 64 → c m ≡ d m) (s s' : S) where
+  files_carry : (kind : Kind) (p rs : List ℕ) (bs : List Reply) (fs : List Entry) → Files sp c s s' kind (map (entry p) rs) bs fs → Files sp d s s' kind (map (entry p) rs) bs fs
+  files_carry Smtp p rs bs fs (settling.all_filed t) = settling.all_filed (together_carries sp c d same s s' (map (entry p) rs) (entries_there p rs) t)
+  files_carry Smtp p rs bs fs (settling.none-filed f t) = settling.none-filed f (spoilt_carries sp c d same s s' (map (entry p) rs) f (entries_there p rs) t)
+  files_carry Lmtp p rs bs fs h = record { each = each-carries sp c d same s s' (map (entry p) rs) bs (entries_there p rs) h.each; those = h.those }
 
-  pub settles_carry : (kind : Kind) (o : Outcome) (bs : List Reply) (fs : List Entry) → Settles held lot room c s s' kind o bs fs → Settles held lot room d s s' kind o bs fs
+  pub settles_carry : (kind : Kind) (o : Outcome) (bs : List Reply) (fs : List Entry) → Settles sp c s s' kind o bs fs → Settles sp d s s' kind o bs fs
   settles_carry kind (answered r) bs fs h = record { says = h.says; none = h.none; same = h.same }
   settles_carry kind (ends rs None) bs fs h = record { says = h.says; none = h.none; same = h.same }
   settles_carry kind (ends rs (Some p)) bs fs h = files_carry kind p rs bs fs h

@@ -1,16 +1,16 @@
 -- The plain tally of one session, when it agrees with the receiver's records, and what some octets do to it.
 use Rattle.std.specs.Prelude.{◌≡◌, ℕ, ◌+◌, ◌<◌, ◌≤◌, List, [], ◌++◌, length, take, None, Option, ◌≢◌}
 use Rattle.std.specs.List.{flat_map}
-use Rattle.ends.specs.Ledgers.{count, counts_of}
+use Rattle.ends.specs.Ledgers.{collections_of, count, counts_of}
 use Rattle.ends.specs.declared.ledger.Ledger.{Ledger}
 use Rattle.judgement.specs.declared.phase.Kind.{Kind}
 use Rattle.protocol.specs.Replies.{octets_of as wired}
 use Rattle.protocol.specs.declared.reply.Reply.{Reply}
-use Rattle.refusals.specs.declared.refusal.RoomFault.{RoomFault}
 use Rattle.session.specs.Places.{Stands}
 use Rattle.session.specs.Queues.{waits}
 use Rattle.session.specs.Turns.{Place, Setting}
 use Rattle.spool.specs.Entries.{Entry}
+use Rattle.spool.specs.Meanings.{Meaning}
 use Rattle.receiver.specs.Turns.{Chain, Turn, filed_by, octets_of, point, replies_of}
 use Rattle.receiver.specs.declared.seat.Seat.{Seat}
 
@@ -68,24 +68,23 @@ pub record Fits (name : List ℕ) (find : List ℕ → List ℕ → Option ℕ) 
 pub record Counts (l : Ledger) (filed : List Entry) : Type 0 where
   pub filings : (m : ℕ) → m < 64 → counts_of l m ≡ count m filed
 
-module _ {S : Type 0} (held : S → List Entry) (lot : S → Option (List Entry)) (room : S → ℕ → ℕ → Option RoomFault) (name : List ℕ) (find : List ℕ → List ℕ → Option ℕ) where
+module _ {S : Type 0} (sp : Meaning S) (name : List ℕ) (find : List ℕ → List ℕ → Option ℕ) where
   -- What octets taken and written come to, at a tally: turns finish, and a rest is left.
   pub record Went (k : Talk) (filed : List Entry) (m m' : Moment S) (took wrote : List ℕ) : Type 0 where
     pub turns : List Turn
     pub place : Place
     pub rest : List ℕ
     pub cut : k.rest ++ took ≡ flat_map octets_of turns ++ rest
-    pub chain : Chain held lot room (setting name find k) (point k.place filed m.spool) turns (point place (filed ++ flat_map filed_by turns) m'.spool)
+    pub chain : Chain sp (setting name find k) (point k.place filed m.spool) turns (point place (filed ++ flat_map filed_by turns) m'.spool)
     pub fits : Fits name find (advanced k place rest turns wrote) m'.seat m'.area m'.sheet
     pub counts : Counts m'.ledger (filed ++ flat_map filed_by turns)
-    pub holds : held m'.spool ≡ held m.spool ++ flat_map filed_by turns
-    pub idle : lot m'.spool ≡ None
+    pub holds : sp.held m'.spool ≡ sp.held m.spool ++ flat_map filed_by turns
+    pub idle : sp.lot m'.spool ≡ None
 
   -- The same at every tally that agrees before.
   pub record Told (m m' : Moment S) (took wrote : List ℕ) : Type 0 where
-    pub at : (k : Talk) (filed : List Entry) → Fits name find k m.seat m.area m.sheet → Counts m.ledger filed → lot m.spool ≡ None → Went k filed m m' took wrote
-    pub collections : m'.ledger.collected ≡ m.ledger.collected
-    pub stays : m'.seat.live ≡ m.seat.live
+    pub at : (k : Talk) (filed : List Entry) → Fits name find k m.seat m.area m.sheet → Counts m.ledger filed → sp.lot m.spool ≡ None → Went k filed m m' took wrote
+    pub collections : collections_of m'.ledger ≡ collections_of m.ledger
 
   -- The last step of a feed that leaves fewer than 256 octets of output wrote a reply, with 256 octets left before it; nothing
   -- was taken after it.
@@ -94,4 +93,4 @@ module _ {S : Type 0} (held : S → List Entry) (lot : S → Option (List Entry)
     pub reply : Reply
     pub space : before + 256 ≤ length output
     pub whole : take written output ≡ take before output ++ wired name m'.seat.size reply
-    pub rests : (k : Talk) (filed : List Entry) → Fits name find k m.seat m.area m.sheet → Counts m.ledger filed → lot m.spool ≡ None → (w : Went k filed m m' took (take written output)) × (w.rest ≡ [])
+    pub rests : (k : Talk) (filed : List Entry) → Fits name find k m.seat m.area m.sheet → Counts m.ledger filed → sp.lot m.spool ≡ None → (w : Went k filed m m' took (take written output)) × (w.rest ≡ [])

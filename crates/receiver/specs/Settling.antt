@@ -1,6 +1,6 @@
 -- How a finished turn is answered: its replies, the pairs that were filed, and the spool from before to after. `counts` has how
 -- many pairs were filed for each mailbox before the turn.
-use Rattle.std.specs.Prelude.{◌≡◌, ℕ, List, [], ◌∷◌, map, Some, None, Option}
+use Rattle.std.specs.Prelude.{◌≡◌, ℕ, List, [], ◌∷◌, map, Some, None}
 use Rattle.ends.specs.Faults.{reply_of}
 use Rattle.ends.specs.Filing.{FiledEach, Spoilt, Together, accepted, entry}
 use Rattle.ends.specs.declared.faults.EndFault.{EndFault}
@@ -8,24 +8,24 @@ use Rattle.judgement.specs.declared.phase.Kind.{Kind}
 use Rattle.judgement.specs.declared.phase.Kind.TheVariants.{Smtp, Lmtp}
 use Rattle.protocol.specs.declared.reply.Reply.{Reply}
 use Rattle.protocol.specs.declared.reply.Reply.TheVariants.{Done, TooLarge}
-use Rattle.refusals.specs.declared.refusal.RoomFault.{RoomFault}
 use Rattle.session.specs.Turns.{Outcome, answered, ends}
 use Rattle.spool.specs.Entries.{Entry}
+use Rattle.spool.specs.Meanings.{Meaning}
 
 -- A message that is too large is answered once in SMTP, and once for each recipient in LMTP.
 abbrev pub too_large : Kind → List ℕ → List Reply
 too_large Smtp rs = TooLarge ∷ []
 too_large Lmtp rs = map (λ _. TooLarge) rs
 
-module _ {S : Type 0} (held : S → List Entry) (lot : S → Option (List Entry)) (room : S → ℕ → ℕ → Option RoomFault) (counts : ℕ → ℕ) (s s' : S) where
+module _ {S : Type 0} (sp : Meaning S) (counts : ℕ → ℕ) (s s' : S) where
   -- In SMTP all pairs of a message are filed in one lot, or none by the first fault, which is the answer.
   pub data FilesAll (es : List Entry) : List Reply → List Entry → Type 0 where
-    all_filed : Together held lot room counts s s' es → FilesAll es (Done ∷ []) es
-    none-filed : (f : EndFault) → Spoilt held lot room counts s s' es f → FilesAll es (reply_of f ∷ []) []
+    all_filed : Together sp counts s s' es → FilesAll es (Done ∷ []) es
+    none-filed : (f : EndFault) → Spoilt sp counts s s' es f → FilesAll es (reply_of f ∷ []) []
 
   -- In LMTP each pair is filed by itself, and has a reply; those that were answered 250 are filed.
   pub record FilesEach (es : List Entry) (replies : List Reply) (filed : List Entry) : Type 0 where
-    pub each : FiledEach held lot room counts s es replies s'
+    pub each : FiledEach sp counts s es replies s'
     pub those : filed ≡ accepted es replies
 
   abbrev pub Files : Kind → List Entry → List Reply → List Entry → Type 0

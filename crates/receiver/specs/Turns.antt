@@ -1,10 +1,10 @@
 -- One turn after another of a session, with the spool.
-use Rattle.std.specs.Prelude.{◌≡◌, ℕ, List, [], ◌∷◌, ◌++◌, Option}
+use Rattle.std.specs.Prelude.{◌≡◌, ℕ, List, [], ◌∷◌, ◌++◌}
 use Rattle.ends.specs.Ledgers.{count}
 use Rattle.protocol.specs.declared.reply.Reply.{Reply}
-use Rattle.refusals.specs.declared.refusal.RoomFault.{RoomFault}
 use Rattle.session.specs.Turns.{Outcome, Place, Setting, Turned}
 use Rattle.spool.specs.Entries.{Entry}
+use Rattle.spool.specs.Meanings.{Meaning}
 use Rattle.receiver.specs.Settling.{Settles}
 
 -- A finished turn: its octets, its replies, and the pairs that it filed.
@@ -31,12 +31,12 @@ pub record Point (S : Type 0) : Type 0 where
 abbrev pub point : {S : Type 0} → Place → List Entry → S → Point S
 point p filed s = record { place = p; filed = filed; spool = s }
 
-module _ {S : Type 0} (held : S → List Entry) (lot : S → Option (List Entry)) (room : S → ℕ → ℕ → Option RoomFault) (g : Setting) where
+module _ {S : Type 0} (sp : Meaning S) (g : Setting) where
   -- The octets of the turn lead from one place to the next, and its outcome is settled with the spool.
   pub record Finishes (a : Point S) (t : Turn) (b : Point S) : Type 0 where
     pub outcome : Outcome
     pub turn : Turned g a.place t.octets outcome b.place
-    pub settles : Settles held lot room (λ m. count m a.filed) a.spool b.spool g.kind outcome t.replies t.filed
+    pub settles : Settles sp (λ m. count m a.filed) a.spool b.spool g.kind outcome t.replies t.filed
     pub counts : b.filed ≡ a.filed ++ t.filed
 
   abbrev pub Chain : Point S → List Turn → Point S → Type 0

@@ -6,10 +6,11 @@ ghost use Rattle.receiver.specs.Moments.{Paced, Told, moment};
 ghost use Rattle.session.specs.Queues.{waits};
 
 use crate::ending::settle;
-use crate::seat::{Fed, Seat};
+use crate::seat::{Fed, Host, Seat};
 use directory::directory::Directory;
 use ends::ledger::Ledger;
 use protocol::reply::Reply;
+use session::hear::RECORDS;
 use session::session::Event;
 use session::waiting::Waiting;
 use spool::interface::Spool;
@@ -18,14 +19,12 @@ use spool::interface::Spool;
 pub(crate) fn step<D: Directory, S: Spool>(
     seat: &mut Seat,
     ledger: &mut Ledger,
-    directory: &D,
     spool: &mut S,
-    name: &[u8],
+    host: &Host<'_, D>,
     input: &[u8],
     area: &mut [u8],
-    sheet: &mut [usize],
+    sheet: &mut [usize; RECORDS],
 ) -> usize
-    requires long { length sheet.old ≡ 100 }
     requires wide { length area.old ≡ seat.old.size }
     requires idle { S.Spool.lot spool.old ≡ None }
     requires quiet { waits seat.old.waiting ≡ [] }
@@ -35,9 +34,11 @@ pub(crate) fn step<D: Directory, S: Spool>(
     ensures some { 0 < result }
     ensures idle { S.Spool.lot spool.new ≡ None }
     ensures size { seat.new.size ≡ seat.old.size }
-    ensures told { Told S.Spool.held S.Spool.lot S.Spool.room name.now (D.Directory.told directory.now) (moment seat.old ledger.old area.old sheet.old spool.old) (moment seat.new ledger.new area.new sheet.new spool.new) (take result input.now) [] }
+    ensures told { Told S.Spool host.now.name.now (D.Directory.told host.now.directory.now) (moment seat.old ledger.old area.old sheet.old spool.old) (moment seat.new ledger.new area.new sheet.new spool.new) (take result input.now) [] }
 {
-    let heard = seat.session.hear(directory, name, input, area, sheet);
+    let heard = seat
+        .session
+        .hear(host.directory, host.name, input, area, sheet);
     match heard.event {
         Event::More => {}
         Event::Answered(reply) => {
@@ -75,18 +76,15 @@ fn write(reply: Reply, name: &[u8], size: usize, output: &mut [u8], at: usize) -
 pub(crate) fn converse<D: Directory, S: Spool>(
     seat: &mut Seat,
     ledger: &mut Ledger,
-    directory: &D,
     spool: &mut S,
-    name: &[u8],
+    host: &Host<'_, D>,
     input: &[u8],
     output: &mut [u8],
     area: &mut [u8],
-    sheet: &mut [usize],
+    sheet: &mut [usize; RECORDS],
 ) -> Fed
-    requires short { length name.now ≤ 40 }
     requires narrow { length area.old ≤ 65536 }
     requires roomy { 256 ≤ length output.old }
-    requires long { length sheet.old ≡ 100 }
     requires wide { length area.old ≡ seat.old.size }
     requires idle { S.Spool.lot spool.old ≡ None }
     ensures taken { result.taken ≤ length input.now }
@@ -94,32 +92,24 @@ pub(crate) fn converse<D: Directory, S: Spool>(
     ensures waiting { result.waiting ≡ length (waits seat.new.waiting) }
     ensures rest { drop result.written output.new ≡ drop result.written output.old }
     ensures size { seat.new.size ≡ seat.old.size }
-    ensures told { Told S.Spool.held S.Spool.lot S.Spool.room name.now (D.Directory.told directory.now) (moment seat.old ledger.old area.old sheet.old spool.old) (moment seat.new ledger.new area.new sheet.new spool.new) (take result.taken input.now) (take result.written output.new) }
-    ensures paced { length output.new < result.written + 256 → Paced S.Spool.held S.Spool.lot S.Spool.room name.now (D.Directory.told directory.now) (moment seat.old ledger.old area.old sheet.old spool.old) (moment seat.new ledger.new area.new sheet.new spool.new) (take result.taken input.now) output.new result.written }
+    ensures told { Told S.Spool host.now.name.now (D.Directory.told host.now.directory.now) (moment seat.old ledger.old area.old sheet.old spool.old) (moment seat.new ledger.new area.new sheet.new spool.new) (take result.taken input.now) (take result.written output.new) }
+    ensures paced { length output.new < result.written + 256 → Paced S.Spool host.now.name.now (D.Directory.told host.now.directory.now) (moment seat.old ledger.old area.old sheet.old spool.old) (moment seat.new ledger.new area.new sheet.new spool.new) (take result.taken input.now) output.new result.written }
     ensures stops { result.written + 256 ≤ length output.new → (waits seat.new.waiting ≡ []) × ((result.taken ≡ length input.now) ⊎ (seat.new.session.phase ≡ phases.Ended)) }
 {
     let mut taken = 0;
     let mut written = 0;
+    // Both counts are what the feed answers.
     while output.len() - written >= 256 {
         match seat.waiting.next() {
             Some(reply) => {
-                written = write(reply, name, area.len(), output, written);
+                written = write(reply, host.name, area.len(), output, written);
                 seat.waiting.pass();
             }
             None => {
                 if taken >= input.len() || seat.session.is_ended() {
                     break;
                 }
-                taken += step(
-                    seat,
-                    ledger,
-                    directory,
-                    spool,
-                    name,
-                    &input[taken..],
-                    area,
-                    sheet,
-                );
+                taken += step(seat, ledger, spool, host, &input[taken..], area, sheet);
             }
         }
     }

@@ -7,8 +7,10 @@ ghost use Rattle.session.specs.Turns.{ends};
 ghost use Rattle.std.specs.Option.{option_map};
 ghost use Rattle.std.specs.Prelude.{◌≡◌, ◌≤◌, length, take, None};
 
+use arrayvec::ArrayVec;
 use ends::ledger::Ledger;
 use ends::lmtp::lmtp_end;
+use ends::message::Message;
 use ends::smtp::smtp_end;
 use judgement::phase::Kind;
 use protocol::reply::Reply;
@@ -16,36 +18,25 @@ use session::waiting::Waiting;
 use spool::interface::Spool;
 
 // Ends a message in SMTP: one reply.
-fn end_smtp<S: Spool>(
-    spool: &mut S,
-    ledger: &mut Ledger,
-    recipients: &[usize],
-    payload: &[u8],
-) -> Waiting
-    requires few { length recipients.now ≤ 100 }
+fn end_smtp<S: Spool>(spool: &mut S, ledger: &mut Ledger, message: &Message<'_>) -> Waiting
+    requires few { length message.now.recipients.now ≤ 100 }
     requires idle { S.Spool.lot spool.old ≡ None }
-    ensures { Ended S.Spool.held S.Spool.lot S.Spool.room kinds.Smtp ledger.old ledger.new spool.old spool.new recipients.now payload.now result }
+    ensures { Ended S.Spool kinds.Smtp ledger.old ledger.new spool.old spool.new message.now.recipients.now message.now.payload.now result }
 {
-    match smtp_end(spool, ledger, recipients, payload) {
+    match smtp_end(spool, ledger, message) {
         Ok(reply) => Waiting::one(reply),
         Err(_) => unreachable(),
     }
 }
 
-// Ends a message in LMTP: a reply for each recipient.
-fn end_lmtp<S: Spool>(
-    spool: &mut S,
-    ledger: &mut Ledger,
-    recipients: &[usize],
-    payload: &[u8],
-) -> Waiting
-    requires few { length recipients.now ≤ 100 }
+// Ends a message in LMTP: a reply for each recipient, where SMTP has one for all.
+fn end_lmtp<S: Spool>(spool: &mut S, ledger: &mut Ledger, message: &Message<'_>) -> Waiting
+    requires few { length message.now.recipients.now ≤ 100 }
     requires idle { S.Spool.lot spool.old ≡ None }
-    ensures { Ended S.Spool.held S.Spool.lot S.Spool.room kinds.Lmtp ledger.old ledger.new spool.old spool.new recipients.now payload.now result }
+    ensures { Ended S.Spool kinds.Lmtp ledger.old ledger.new spool.old spool.new message.now.recipients.now message.now.payload.now result }
 {
-    let mut replies = [Reply::Done; 100];
-    match lmtp_end(spool, ledger, recipients, payload, &mut replies) {
-        Ok(()) => Waiting::of(replies, recipients.len()),
+    match lmtp_end(spool, ledger, message) {
+        Ok(replies) => Waiting::of(replies),
         Err(_) => unreachable(),
     }
 }
@@ -57,7 +48,11 @@ fn too_large(kind: Kind, recipients: &[usize]) -> Waiting
 {
     match kind {
         Kind::Smtp => Waiting::one(Reply::TooLarge),
-        Kind::Lmtp => Waiting::of([Reply::TooLarge; 100], recipients.len()),
+        Kind::Lmtp => {
+            let mut replies = ArrayVec::from([Reply::TooLarge; 100]);
+            replies.truncate(recipients.len());
+            Waiting::of(replies)
+        }
     }
 }
 
@@ -72,14 +67,18 @@ pub(crate) fn settle<S: Spool>(
 ) -> Waiting
     requires few { length recipients.now ≤ 100 }
     requires idle { S.Spool.lot spool.old ≡ None }
-    ensures { Settled S.Spool.held S.Spool.lot S.Spool.room kind ledger.old ledger.new spool.old spool.new (ends (mailboxes recipients.now) (option_map (λ n. take n area.now) payload)) result }
+    ensures { Settled S.Spool kind ledger.old ledger.new spool.old spool.new (ends (mailboxes recipients.now) (option_map (λ n. take n area.now) payload)) result }
 {
     match payload {
         Some(count) => {
-            let octets = &area[0..count.min(area.len())];
+            let payload = &area[0..count.min(area.len())];
+            let message = Message {
+                recipients,
+                payload,
+            };
             match kind {
-                Kind::Smtp => end_smtp(spool, ledger, recipients, octets),
-                Kind::Lmtp => end_lmtp(spool, ledger, recipients, octets),
+                Kind::Smtp => end_smtp(spool, ledger, &message),
+                Kind::Lmtp => end_lmtp(spool, ledger, &message),
             }
         }
         None => too_large(kind, recipients),

@@ -1,10 +1,10 @@
 -- What the octets of a chunk come to.
-use Rattle.std.proofs.Common.{◌≡◌, ℕ, ◌+◌, ◌-◌, ◌^◌, ◌<◌, ◌≤◌, min, Bool, true, false, cond, leb, List, [], ◌++◌, length, take, Some, None, sym, refl, ap, ◌∙◌, subst, inl, arith}
+use Rattle.std.proofs.Common.{◌≡◌, ℕ, ◌+◌, ◌≤◌, min, Bool, true, false, cond, leb, List, [], ◌++◌, length, take, Some, None, Option, IfSome, is_some, sym, refl, ap, ◌∙◌, subst, inl, arith, Ok}
 use Rattle.std.proofs.lemmas.List.{append-nil, length-append, length-take, length-take-le}
 use Rattle.std.proofs.lemmas.Bool.{cond-false, cond-true, leb-true}
 use Rattle.command.specs.declared.chunk.Chunk.{Chunk}
 use Rattle.judgement.specs.Judgements.{JudgedAs}
-use Rattle.judgement.specs.declared.judged.Judged.TheVariants as judged
+use Rattle.judgement.specs.declared.judged.Asked.TheVariants as asks
 use Rattle.judgement.specs.declared.phase.Phase.{Phase}
 use Rattle.judgement.specs.declared.phase.Phase.TheVariants as phase
 use Rattle.protocol.specs.Buffers.{LineStands}
@@ -15,7 +15,9 @@ use Rattle.spool.specs.Lists.{records}
 use Rattle.spool.proofs.Fronts.{front_is}
 use Rattle.session.specs.Standings.{Standing, commands, idle, most, takes_chunks}
 use Rattle.session.specs.Turns.{Setting, Place, Outcome, Turned, answered, chunk, chunk_after, chunk_area, chunk_outcome, ends, joined_after, joined_chunk, joins, laid, line_in, oversized_after, oversized_chunk}
-use Rattle.session.specs.Places.{Based, Came, InMode, Started, TurnEnds, mailboxes, standing_of}
+use Rattle.session.specs.Places.{After, Based, Came, InMode, Started, TurnEnds, mailboxes, standing_of}
+use Rattle.session.specs.declared.session.Event.{Event}
+use Rattle.session.specs.declared.session.Event.TheVariants.{MessageEnd}
 use Rattle.session.specs.declared.session.Mode.{Mode}
 use Rattle.session.specs.declared.session.Mode.TheVariants as mode
 use Rattle.session.specs.declared.session.Session.{Session}
@@ -115,7 +117,7 @@ module _ (g : Setting) (p : Place) (x x' : Session) (area sheet : List ℕ) (c :
       started phase.Spoiled s refl (after_is t false k ∙ ap oversized_after l) (answered reply.TooLarge)
       (out_is t false k ∙ ap (oversized_chunk p.standing) l)
 
-  pub oversized_last : takes_chunks x.phase ≡ true → keeps ≡ false → c.last ≡ true → Started (lined x) x' phase.Greeted → TurnEnds g p (ended text ++ body) x' area sheet (ends (mailboxes (take (length (records x.recipients sheet)) sheet)) None)
+  oversized_last : takes_chunks x.phase ≡ true → keeps ≡ false → c.last ≡ true → Started (lined x) x' phase.Greeted → TurnEnds g p (ended text ++ body) x' area sheet (ends (mailboxes (take (length (records x.recipients sheet)) sheet)) None)
   oversized_last t k l s =
       started phase.Greeted s refl (after_is t false k ∙ ap oversized_after l) _
       (out_is t false k ∙ ap (oversized_chunk p.standing) l ∙ ap (λ (rs : List ℕ). ends rs None) (sym (people_are g p x sheet b)))
@@ -135,19 +137,20 @@ module _ (g : Setting) (p : Place) (x x' : Session) (area sheet : List ℕ) (c :
       ∙ ap (take (length q)) (cond-true (joins g.size p.standing (length body)) (laid p.area q) p.area (sym joins_are ∙ k))
       ∙ laid_front p.area q (omega (arith, b.wide))
 
-  pub count_is : takes_chunks x.phase ≡ true → keeps ≡ true → (k r : ℕ) → g.size ≡ length area → length area < 2 ^ 64 → r ≡ min (x.kept + c.size) (2 ^ 64 - 1) → k ≡ min r (length area) → k ≡ x.kept + c.size
-  count_is t kp k r w lt e1 e2 = omega (arith, fits t kp, length-append p.standing.payload body, payload_long g p x sheet b)
+  kept_is : takes_chunks x.phase ≡ true → keeps ≡ true → (k : ℕ) → g.size ≡ length area → k ≡ min (x.kept + c.size) (length area) → k ≡ x.kept + c.size
+  kept_is t kp k w e = omega (arith, fits t kp, length-append p.standing.payload body, payload_long g p x sheet b)
 
-  pub joined : takes_chunks x.phase ≡ true → keeps ≡ true → c.last ≡ false → x'.phase ≡ phase.Chunks → x'.recipients ≡ x.recipients → x'.kept ≡ x.kept + c.size → x'.kind ≡ x.kind → x'.mode ≡ mode.Line → x'.line ≡ x.line → TurnEnds g p (ended text ++ body) x' area sheet (answered reply.Done)
-  joined t kp l e1 e2 e3 k md ln =
+  pub joined : takes_chunks x.phase ≡ true → keeps ≡ true → c.last ≡ false → x'.phase ≡ phase.Chunks → x'.recipients ≡ x.recipients → g.size ≡ length area → x'.kept ≡ min (x.kept + c.size) (length area) → x'.kind ≡ x.kind → x'.mode ≡ mode.Line → x'.line ≡ x.line → TurnEnds g p (ended text ++ body) x' area sheet (answered reply.Done)
+  joined t kp l e1 e2 w cut k md ln =
       let st = p.standing in
+      let e3 = kept_is t kp x'.kept w cut in
       let a : next.standing ≡ record { phase = phase.Chunks; recipients = st.recipients; payload = st.payload ++ body } = after_is t true kp ∙ ap (joined_after st (st.payload ++ body)) l in
       chunk_ends (answered reply.Done) (out_is t true kp ∙ ap (joined_chunk st (st.payload ++ body)) l)
       (standing_same _ _ _ _ _ _ e1 (ap (λ l. mailboxes (records l sheet)) e2 ∙ ap (λ (s : Standing). s.recipients) b.standing) (ap (λ (j : ℕ). take j next.area) e3 ∙ front_of t kp) ∙ sym a)
       (ap (λ (s : Standing). commands s.phase) a) k (let P : _ = λ l. l.count ≤ most in subst P (sym e2) b.few)
       (omega (arith, fits t kp, length-append p.standing.payload body, payload_long g p x sheet b)) md ln
 
-  pub joined_last : takes_chunks x.phase ≡ true → keeps ≡ true → c.last ≡ true → (k : ℕ) → k ≡ x.kept + c.size → Started (lined x) x' phase.Greeted → TurnEnds g p (ended text ++ body) x' area sheet (ends (mailboxes (take (length (records x.recipients sheet)) sheet)) (Some (take k area)))
+  joined_last : takes_chunks x.phase ≡ true → keeps ≡ true → c.last ≡ true → (k : ℕ) → k ≡ x.kept + c.size → Started (lined x) x' phase.Greeted → TurnEnds g p (ended text ++ body) x' area sheet (ends (mailboxes (take (length (records x.recipients sheet)) sheet)) (Some (take k area)))
   joined_last t kp l k e s =
       let st = p.standing in
       started phase.Greeted s refl (after_is t true kp ∙ ap (joined_after st (st.payload ++ body)) l) _
@@ -155,8 +158,13 @@ module _ (g : Setting) (p : Place) (x x' : Session) (area sheet : List ℕ) (c :
       ∙ ap (λ (rs : List ℕ). ends rs (Some (st.payload ++ body))) (sym (people_are g p x sheet b))
       ∙ ap (λ (q : List ℕ). ends (mailboxes (take (length (records x.recipients sheet)) sheet)) (Some q)) (sym (ap (take k) area_is ∙ ap (λ (j : ℕ). take j next.area) e ∙ front_of t kp)))
 
+  -- The last chunk ends the message: with the payload where it joins, and with none where it does not.
+  pub ended_message : takes_chunks x.phase ≡ true → c.last ≡ true → g.size ≡ length area → (k : Option ℕ) → is_some k ≡ keeps → IfSome k (λ v. v ≡ min (x.kept + c.size) (length area)) → (e : Event) → e ≡ MessageEnd (length (records x.recipients sheet)) k → Started (lined x) x' phase.Greeted → After g p (ended text ++ body) x' area sheet e
+  ended_message t l w (Some k) i v e q s = let A : Event → Type 0 = λ y. After g p (ended text ++ body) x' area sheet y in subst A (sym q) (joined_last t (sym i) l k (kept_is t (sym i) k w v) s)
+  ended_message t l w None i v e q s = let A : Event → Type 0 = λ y. After g p (ended text ++ body) x' area sheet y in subst A (sym q) (oversized_last t (sym i) l s)
+
 -- A chunk is announced, and none of its octets has come.
-pub came_none : (g : Setting) (p : Place) (x y : Session) (area sheet : List ℕ) (c : Chunk) (keeps : Bool) (text : List ℕ) → Based g p x sheet → g.size ≡ length area → area ≡ p.area → commands p.standing.phase ≡ true → Unbroken text → JudgedAs (line_in g p.standing.phase text) (judged.Chunk c) → LineStands [] y.line →
+pub came_none : (g : Setting) (p : Place) (x y : Session) (area sheet : List ℕ) (c : Chunk) (keeps : Bool) (text : List ℕ) → Based g p x sheet → g.size ≡ length area → area ≡ p.area → commands p.standing.phase ≡ true → Unbroken text → JudgedAs (line_in g p.standing.phase text) (Ok (asks.Chunk c)) → LineStands [] y.line →
     (x.kept ≤ length area → keeps ≡ cond (takes_chunks x.phase) (leb (x.kept + c.size) (length area)) false) → Came g p y area c keeps text []
 came_none g p x y area sheet c keeps text b w s h u j l k =
     let st = p.standing in

@@ -1,14 +1,14 @@
 -- What octets of a line, of a chunk and of a data part come to, whatever came before them.
-use Rattle.std.proofs.Common.{◌≡◌, ℕ, ◌+◌, ◌-◌, ◌^◌, ◌<◌, ◌≤◌, min, Bool, true, false, cond, ltb, leb, ◌⊎◌, List, [], ◌∷◌, ◌++◌, length, take, drop, Some, None, Option, sym, refl, ap, ◌∙◌, subst, inl, inr, append_assoc, arith}
+use Rattle.std.proofs.Common.{◌≡◌, ℕ, ◌+◌, ◌-◌, ◌^◌, ◌<◌, ◌≤◌, min, Bool, true, false, cond, ltb, leb, List, [], ◌∷◌, ◌++◌, length, take, drop, Some, Option, sym, refl, ap, ◌∙◌, subst, inl, inr, append_assoc, arith, Ok, Err}
 use Rattle.std.specs.Option.{option_map}
 use Rattle.std.proofs.lemmas.List.{length-append}
-use Rattle.std.proofs.lemmas.Bool.{cond-false, cond-true, le-leb, leb-true, lt-leb, ltb-false, ltb-true}
+use Rattle.std.proofs.lemmas.Bool.{cond-false, cond-true, le-leb, leb-true, lt-leb}
 use Rattle.command.specs.Lines.{argument_part}
 use Rattle.command.specs.declared.argument.RcptLine.{RcptLine}
 use Rattle.command.specs.declared.chunk.Chunk.{Chunk}
 use Rattle.judgement.specs.Judgements.{JudgedAs, Line}
-use Rattle.judgement.specs.declared.judged.Judged.{Judged}
-use Rattle.judgement.specs.declared.judged.Judged.TheVariants as judged
+use Rattle.judgement.specs.Judgements.{Judged}
+use Rattle.judgement.specs.declared.judged.Asked.TheVariants as asks
 use Rattle.judgement.specs.declared.phase.Kind.{Kind}
 use Rattle.judgement.specs.declared.phase.Phase.{Phase}
 use Rattle.judgement.specs.declared.phase.Phase.TheVariants as phase
@@ -20,11 +20,10 @@ use Rattle.protocol.specs.Outputs.{overlaid, put}
 use Rattle.protocol.specs.declared.line.LineBuffer.{LineBuffer}
 use Rattle.protocol.specs.declared.part.DataPart.{DataPart}
 use Rattle.protocol.specs.declared.reply.Reply.{Reply}
-use Rattle.protocol.proofs.Laying.{laid-whole}
 use Rattle.spool.specs.Lists.{records}
 use Rattle.session.specs.Standings.{Standing, answer, commands, heeded, idle, recipient, takes_chunks}
-use Rattle.session.specs.Turns.{Enrols, Outcome, Place, Setting, Turned, answered, asked_by, command, ends, joins, laid, line_in, message, within}
-use Rattle.session.specs.Places.{After, Announced, Based, Came, ChunkEnds, Hears, InChunk, InData, InLine, InMode, Obeyed, Ready, Stands, Started, TurnEnds, for_data, for_line, for_none, standing_of}
+use Rattle.session.specs.Turns.{Enrols, Outcome, Place, Setting, Turned, answered, asked_by, command, ends, joins, laid, line_in, message}
+use Rattle.session.specs.Places.{After, Announced, Based, Came, ChunkEnds, Heeding, Hears, InChunk, InData, InLine, InMode, Obeyed, Ready, Stands, Started, TurnEnds, for_data, for_line, for_none, setting_of, standing_of}
 use Rattle.session.specs.Seeking.{Seeks}
 use Rattle.session.specs.declared.session.ChunkPart.{ChunkPart}
 use Rattle.session.specs.declared.session.Event.{Event}
@@ -33,22 +32,22 @@ use Rattle.session.specs.declared.session.Mode.{Mode}
 use Rattle.session.specs.declared.session.Mode.TheVariants as mode
 use Rattle.session.specs.declared.session.Session.{Session}
 use Rattle.session.proofs.Chunking.{in_line, lined, payload_long, people_are, phase_is}
-use Rattle.session.proofs.Laying.{laid_long, laid_more}
+use Rattle.session.proofs.Laying.{laid_long, laid_more, within_is}
 use Rattle.session.proofs.Obeying.{idle_is}
 
 -- Only an RCPT line asks the directory.
-heeded_asked : (f : RcptLine → Option ℕ) (asked : Option ℕ) (st : Standing) (j : Judged) → ((line : RcptLine) → j ≡ judged.Rcpt line → asked ≡ f line) → heeded (λ _. asked) st j ≡ heeded f st j
-heeded_asked f asked st (judged.Refused r last) h = refl
-heeded_asked f asked st judged.Hello h = refl
-heeded_asked f asked st judged.Extended h = refl
-heeded_asked f asked st judged.Mail h = refl
-heeded_asked f asked st (judged.Rcpt line) h = ap (λ (o : Option ℕ). Some (recipient st o)) (h line refl)
-heeded_asked f asked st judged.Data h = refl
-heeded_asked f asked st (judged.Chunk c) h = refl
-heeded_asked f asked st judged.Reset h = refl
-heeded_asked f asked st judged.Noop h = refl
-heeded_asked f asked st judged.Verify h = refl
-heeded_asked f asked st judged.Quit h = refl
+heeded_asked : (f : RcptLine → Option ℕ) (asked : Option ℕ) (st : Standing) (j : Judged) → ((line : RcptLine) → j ≡ Ok (asks.Rcpt line) → asked ≡ f line) → heeded (λ _. asked) st j ≡ heeded f st j
+heeded_asked f asked st (Err r) h = refl
+heeded_asked f asked st (Ok asks.Hello) h = refl
+heeded_asked f asked st (Ok asks.Extended) h = refl
+heeded_asked f asked st (Ok asks.Mail) h = refl
+heeded_asked f asked st (Ok (asks.Rcpt line)) h = ap (λ (o : Option ℕ). Some (recipient st o)) (h line refl)
+heeded_asked f asked st (Ok asks.Data) h = refl
+heeded_asked f asked st (Ok (asks.Chunk c)) h = refl
+heeded_asked f asked st (Ok asks.Reset) h = refl
+heeded_asked f asked st (Ok asks.Noop) h = refl
+heeded_asked f asked st (Ok asks.Verify) h = refl
+heeded_asked f asked st (Ok asks.Quit) h = refl
 
 line_same : (k k' : Kind) (q q' : Phase) (a a' : ℕ) (o o' : List ℕ) (l l' : Bool) → k ≡ k' → q ≡ q' → a ≡ a' → o ≡ o' → l ≡ l' → ◌≡◌ {A = Line} (record { kind = k; phase = q; area = a; octets = o; long = l }) (record { kind = k'; phase = q'; area = a'; octets = o'; long = l' })
 line_same k k' q q' a a' o o' l l' h i m n w = cc
@@ -69,7 +68,7 @@ ready-mode g p x area l s e q eq m (for_data d h) =
 
 obeyed_turn : (g : Setting) (p : Place) (x x' : Session) (area sheet sheet' : List ℕ) (asked : Option ℕ) (j : Judged) (r : Reply) (text : List ℕ) →
     Based g p x sheet → x.mode ≡ mode.Line → area ≡ p.area → commands p.standing.phase ≡ true → Unbroken text → JudgedAs (line_in g p.standing.phase text) j →
-    ((line : RcptLine) → j ≡ judged.Rcpt line → asked ≡ asked_by g p.standing.phase text line) → Obeyed x x' sheet sheet' asked j r → LineStands [] x.line → length sheet' ≡ length sheet →
+    ((line : RcptLine) → j ≡ Ok (asks.Rcpt line) → asked ≡ asked_by g p.standing.phase text line) → Obeyed x x' sheet sheet' asked j r → LineStands [] x.line → length sheet' ≡ length sheet →
     TurnEnds g p (ended text) x' area sheet' (answered r)
 obeyed_turn g p x x' area sheet sheet' asked j r text b m s w u jd h o l n =
     let after = standing_of x' p.area sheet' in
@@ -112,7 +111,7 @@ module _ (g : Setting) (x : Session) (area sheet : List ℕ) (octet : ℕ) (b b�
       let P : Line → Type 0 = λ y. JudgedAs y j in
       subst P (line_same _ _ _ _ _ _ _ _ _ _ k (phase_is g p x sheet s.base) (sym w) (shown_is p rest s) (v ∙ e.long ∙ ap (λ (xs : List ℕ). ltb longest (length xs)) e.whole)) jd
 
-  pub announce_hears : (x' : Session) (c : Chunk) (e : Event) → j ≡ judged.Chunk c → Announced (relined x b₂) x' area sheet c e → Hears g x x' area area sheet sheet (octet ∷ []) e
+  pub announce_hears : (x' : Session) (c : Chunk) (e : Event) → j ≡ Ok (asks.Chunk c) → Announced (relined x b₂) x' area sheet c e → Hears g x x' area area sheet sheet (octet ∷ []) e
   announce_hears x' c e i a = record {
     after = λ p rest s.
         let n = ends_of p rest s in
@@ -126,13 +125,20 @@ module _ (g : Setting) (x : Session) (area sheet : List ℕ) (octet : ℕ) (b b�
     after = λ p rest s.
         let e = ends_of p rest s in
         let P : List ℕ → Type 0 = λ y. TurnEnds g p y x' area sheet' (answered r) in
-        let ask : (line : RcptLine) → j ≡ judged.Rcpt line → asked ≡ asked_by g p.standing.phase e.text line =
+        let ask : (line : RcptLine) → j ≡ Ok (asks.Rcpt line) → asked ≡ asked_by g p.standing.phase e.text line =
         λ line i. sk line i ∙ ap (λ (xs : List ℕ). g.find (local_part (drop 3 (argument_part (trim xs))) line.path) (domain_part (drop 3 (argument_part (trim xs))) g.name line.path)) (shown_is p rest s)
         in
         subst P (sym e.whole) (obeyed_turn g p (relined x b₂) x' area sheet sheet' asked j r e.text (rebased g p x sheet b₂ s.base) m (line_of p rest s).still (commands_of p rest s) e.first (judged_of p rest s) ask ob l n);
   }
 
--- Octets of a chunk.
+-- Octets of a chunk go into the area where it joins the payload and they fit.
+pub put_fits : (keeps : Bool) (area run : List ℕ) (at : ℕ) → keeps ≡ true → at + length run ≤ length area → overlaid area at run ≡ cond keeps (put area at run) area
+put_fits keeps area run at k h = sym (cond-true keeps (put area at run) area k ∙ cond-true (leb (at + length run) (length area)) (overlaid area at run) area (le-leb _ _ h))
+
+pub put_past : (keeps : Bool) (area run : List ℕ) (at : ℕ) → length area < at + length run → area ≡ cond keeps (put area at run) area
+put_past true area run at h = sym (cond-false (leb (at + length run) (length area)) (overlaid area at run) area (lt-leb _ _ h))
+put_past false area run at h = refl
+
 module _ (g : Setting) (x : Session) (area area' sheet : List ℕ) (c : ChunkPart) (run : List ℕ) (at : ℕ)
     (w : g.size ≡ length area) (m : x.mode ≡ mode.Chunk c) (lt : length area < 2 ^ 64) (few : c.got + length run ≤ c.chunk.size)
     (e : at ≡ min (x.kept + c.got) (2 ^ 64 - 1)) (a : area' ≡ cond c.joins (put area at run) area) where
@@ -207,33 +213,30 @@ module _ (g : Setting) (x : Session) (area area' sheet : List ℕ) (c : ChunkPar
   }
 
 -- The octets that end a data part.
-pub data_ends : (g : Setting) (x x' : Session) (area area' sheet octets : List ℕ) (d d' : DataPart) (k : Option ℕ) → g.size ≡ length area → x.mode ≡ mode.Data d → DataTook d d' area area' octets true →
-    ((d'.over ≡ true) × (k ≡ None)) ⊎ ((d'.over ≡ false) × (k ≡ Some d'.kept)) → Started (lined x) x' phase.Greeted →
-    Hears g x x' area area' sheet sheet octets (MessageEnd (length (records x.recipients sheet)) k)
-data_ends g x x' area area' sheet octets d d' k w m took which s = record {
+pub data_ends : (g : Setting) (x x' : Session) (area area' sheet octets : List ℕ) (d d' : DataPart) (e : Event) → g.size ≡ length area → x.mode ≡ mode.Data d → DataTook d d' area area' octets true →
+    e ≡ MessageEnd (length (records x.recipients sheet)) d'.payload → Started (lined x) x' phase.Greeted → Hears g x x' area area' sheet sheet octets e
+data_ends g x x' area area' sheet octets d d' ev w m took is s = record {
   after = λ p rest st.
       let P : Mode → Type 0 = λ y. InMode g p rest x area y in
       let i : InData p rest x area d = subst P m st.mode in
       let e : DataEnds (rest ++ octets) d' p.area area' = took.after rest p.area i.stands in
-      let la = e.laid in
       let L : LineBuffer → Type 0 = λ y. LineStands [] y in
-      let O : Outcome → Type 0 = λ y. Turned g p (rest ++ octets) y (record { standing = idle phase.Greeted; area = laid p.area e.payload; sheet = p.sheet }) in
-      let long : length p.area ≡ g.size = st.base.wide in
-      let payload-of : within g.size e.payload ≡ option_map (λ n. take n area') k = elim which [
-        | inl h ↦
-            let past : g.size < length e.payload = omega (arith, ltb-true (length p.area) (length e.payload) (sym la.past ∙ h.0)) in
-            cond-false (leb (length e.payload) g.size) _ _ (lt-leb _ _ past) ∙ sym (ap (option_map (λ n. take n area')) h.1)
-        | inr h ↦
-            let in_area : length e.payload ≤ g.size = omega (arith, ltb-false (length p.area) (length e.payload) (sym la.past ∙ h.0)) in
-            cond-true (leb (length e.payload) g.size) _ _ (le-leb _ _ in_area)
-            ∙ ap (λ (q : List ℕ). Some q) (sym (laid-whole e.payload p.area area' d'.kept d'.over la h.0).1) ∙ sym (ap (option_map (λ n. take n area')) h.1)
-      ] in
-      record {
-        next = record { standing = idle phase.Greeted; area = laid p.area e.payload; sheet = p.sheet };
-        turn = subst O (ap (λ (q : Option (List ℕ)). ends p.standing.recipients q) payload-of ∙ ap (λ (rs : List ℕ). ends rs (option_map (λ n. take n area') k)) (sym (people_are g p x sheet st.base))) (message (rest ++ octets) e.payload i.heard e.message);
+      let next : Place = record { standing = idle phase.Greeted; area = laid p.area e.payload; sheet = p.sheet } in
+      let O : Outcome → Type 0 = λ y. Turned g p (rest ++ octets) y next in
+      let A : Event → Type 0 = λ y. After g p (rest ++ octets) x' area' sheet y in
+      let shown : Option ℕ → Option (List ℕ) = option_map (λ n. take n area') in
+      subst A (sym is) (record {
+        next = next;
+        turn = subst O (ap (λ (q : Option (List ℕ)). ends p.standing.recipients q) (within_is e.payload p.area area' d'.payload g.size st.base.wide e.laid) ∙ ap (λ (rs : List ℕ). ends rs (shown d'.payload)) (sym (people_are g p x sheet st.base))) (message (rest ++ octets) e.payload i.heard e.message);
         stands = record {
-          base = record { kind = s.kind ∙ st.base.kind; standing = idle_is x' (laid p.area e.payload) sheet phase.Greeted s.phase s.recipients s.kept; listed = st.base.listed; wide = laid_long p.area e.payload ∙ long; records = st.base.records; few = omega (arith, s.recipients); kept = omega (arith, s.kept) };
-          mode = in_line (record { standing = idle phase.Greeted; area = laid p.area e.payload; sheet = p.sheet }) x' area' g s.mode refl (subst L (sym s.line) i.line) la.holds;
+          base = record { kind = s.kind ∙ st.base.kind; standing = idle_is x' (laid p.area e.payload) sheet phase.Greeted s.phase s.recipients s.kept; listed = st.base.listed; wide = laid_long p.area e.payload ∙ st.base.wide; records = st.base.records; few = omega (arith, s.recipients); kept = omega (arith, s.kept) };
+          mode = in_line next x' area' g s.mode refl (subst L (sym s.line) i.line) e.laid.holds;
         };
-      };
+      });
 }
+
+-- What octets do that no directory is asked for, in a sheet that is handed on.
+pub heard_in : (x x' : Session) (area area' sheet sheet' octets : List ℕ) (e : Event) (name : List ℕ) (find : List ℕ → List ℕ → Option ℕ) → sheet' ≡ sheet → Heeding x x' area area' sheet' octets e → Hears (setting_of x name area find) x x' area area' sheet sheet' octets e
+heard_in x x' area area' sheet sheet' octets e name find same h =
+    let P : List ℕ → Type 0 = λ s. Hears (setting_of x name area find) x x' area area' s sheet' octets e in
+    subst P same (h.in_any name find)

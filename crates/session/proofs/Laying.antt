@@ -1,9 +1,12 @@
 -- Octets at the front of an area.
-use Rattle.std.proofs.Common.{◌≡◌, ℕ, ◌+◌, ◌≤◌, List, ◌++◌, length, take, drop, sym, ap, ◌∙◌, zero-add, arith}
+use Rattle.std.proofs.Common.{◌≡◌, ℕ, ◌+◌, ◌≤◌, Bool, true, false, cond, leb, List, ◌++◌, length, take, drop, Some, None, Option, sym, refl, ap, ◌∙◌, zero-add, arith}
+use Rattle.std.specs.Option.{option_map}
+use Rattle.std.proofs.lemmas.Bool.{cond-false, cond-true, leb-true}
 use Rattle.std.proofs.lemmas.List.{length-append, length-drop, length-take, length-take-le, take_all, take-append-drop, take-append-le}
 use Rattle.protocol.specs.Outputs.{overlaid}
 use Rattle.protocol.proofs.Overlays.{overlaid-both}
-use Rattle.session.specs.Turns.{laid}
+use Rattle.protocol.specs.DataParts.{Laid}
+use Rattle.session.specs.Turns.{laid, within}
 
 pub laid-fits : (was q : List ℕ) → length q ≤ length was → laid was q ≡ q ++ drop (length q) was
 laid-fits was q h = ap (λ (xs : List ℕ). xs ++ drop (length q) was) (take_all (length was) q h)
@@ -29,3 +32,17 @@ laid_long was q = omega (arith, length-append (take (length was) q) (drop (lengt
 pub laid_front : (was q : List ℕ) → length q ≤ length was → take (length q) (laid was q) ≡ q
 laid_front was q h =
     ap (take (length q)) (laid-fits was q h) ∙ take-append-le (length q) q (drop (length q) was) (omega arith) ∙ take_all (length q) q (omega arith)
+
+-- A payload as an area holds it, where it is kept count of.
+pub within_is : (p was area : List ℕ) (kept : Option ℕ) (size : ℕ) → length was ≡ size → Laid p was area kept → within size p ≡ option_map (λ n. take n area) kept
+within_is p was area kept size w l =
+    ap (λ (n : ℕ). within n p) (sym w) ∙ either (leb (length p) (length was)) refl ∙ sym (ap (option_map (λ n. take n area)) l.count)
+  where
+    either : (b : Bool) → leb (length p) (length was) ≡ b → cond (leb (length p) (length was)) (Some p) None ≡ option_map (λ n. take n area) (cond (leb (length p) (length was)) (Some (length p)) None)
+    either true h =
+        cond-true (leb (length p) (length was)) (Some p) None h
+        ∙ ap (λ (q : List ℕ). Some q) (sym (ap (take (length p)) l.holds ∙ laid_front was p (leb-true _ _ h)))
+        ∙ sym (ap (option_map (λ n. take n area)) (cond-true (leb (length p) (length was)) (Some (length p)) None h))
+    either false h =
+        cond-false (leb (length p) (length was)) (Some p) None h
+        ∙ sym (ap (option_map (λ n. take n area)) (cond-false (leb (length p) (length was)) (Some (length p)) None h))

@@ -2,4 +2,3 @@ pub mod Obeying
 pub mod Laying
 pub mod Chunking
 pub mod Hearing
-pub mod Queuing

@@ -1,10 +1,10 @@
 -- What the records of a session, its area and its sheet stand for, however its octets came.
-use Rattle.std.specs.Prelude.{◌≡◌, ℕ, ◌%◌, ◌≤◌, Bool, true, cond, ◌⊎◌, List, [], ◌++◌, map, length, take, replicate, Some, Option}
+use Rattle.std.specs.Prelude.{◌≡◌, ℕ, ◌%◌, ◌≤◌, Bool, true, cond, ◌⊎◌, List, [], ◌++◌, map, length, take, replicate, Some, Option, Ok}
 use Rattle.std.specs.Option.{option_map}
 use Rattle.command.specs.declared.chunk.Chunk.{Chunk}
 use Rattle.judgement.specs.Judgements.{JudgedAs}
-use Rattle.judgement.specs.declared.judged.Judged.{Judged}
-use Rattle.judgement.specs.declared.judged.Judged.TheVariants as judged
+use Rattle.judgement.specs.Judgements.{Judged}
+use Rattle.judgement.specs.declared.judged.Asked.TheVariants as asks
 use Rattle.judgement.specs.declared.phase.Kind.{Kind}
 use Rattle.judgement.specs.declared.phase.Phase.{Phase}
 use Rattle.judgement.specs.declared.phase.Phase.TheVariants as phase
@@ -43,7 +43,7 @@ pub record InLine (p : Place) (rest : List ℕ) (x : Session) (area : List ℕ) 
 pub record Came (g : Setting) (p : Place) (x : Session) (area : List ℕ) (c : Chunk) (keeps : Bool) (text body : List ℕ) : Type 0 where
   pub heard : commands p.standing.phase ≡ true
   pub first : Unbroken text
-  pub announced : JudgedAs (line_in g p.standing.phase text) (judged.Chunk c)
+  pub announced : JudgedAs (line_in g p.standing.phase text) (Ok (asks.Chunk c))
   pub joining : keeps ≡ joins g.size p.standing c.size
   pub lays : area ≡ cond keeps (laid p.area (p.standing.payload ++ body)) p.area
   pub line : LineStands [] x.line
@@ -127,7 +127,7 @@ pub record Obeyed (x x' : Session) (sheet sheet' : List ℕ) (asked : Option ℕ
 -- What the line of a chunk does, and what the last octet of a chunk does.
 pub record Announced (x x' : Session) (area sheet : List ℕ) (c : Chunk) (e : Event) : Type 0 where
   pub after : (g : Setting) (p : Place) (text : List ℕ) → g.size ≡ length area → Based g p x sheet → area ≡ p.area →
-      commands p.standing.phase ≡ true → Unbroken text → JudgedAs (line_in g p.standing.phase text) (judged.Chunk c) → LineStands [] x.line → After g p (ended text) x' area sheet e
+      commands p.standing.phase ≡ true → Unbroken text → JudgedAs (line_in g p.standing.phase text) (Ok (asks.Chunk c)) → LineStands [] x.line → After g p (ended text) x' area sheet e
 
 pub record ChunkEnds (x x' : Session) (area sheet : List ℕ) (c : Chunk) (keeps : Bool) (e : Event) : Type 0 where
   pub after : (g : Setting) (p : Place) (text body : List ℕ) → g.size ≡ length area → Based g p x sheet → Came g p x area c keeps text body → length body ≡ c.size → After g p (ended text ++ body) x' area sheet e

@@ -1,8 +1,8 @@
 -- Where a conversation stands between two turns, and what a command line does there.
-use Rattle.std.specs.Prelude.{ℕ, Bool, true, false, cond, List, [], ◌∷◌, ◌++◌, length, Some, None, Option, nat_lt}
+use Rattle.std.specs.Prelude.{ℕ, Bool, true, false, cond, List, [], ◌∷◌, ◌++◌, length, Some, None, Option, nat_lt, Ok, Err}
 use Rattle.command.specs.declared.argument.RcptLine.{RcptLine}
-use Rattle.judgement.specs.declared.judged.Judged.{Judged}
-use Rattle.judgement.specs.declared.judged.Judged.TheVariants as judged
+use Rattle.judgement.specs.Judgements.{Judged}
+use Rattle.judgement.specs.declared.judged.Asked.TheVariants as asks
 use Rattle.judgement.specs.declared.phase.Phase.{Phase}
 use Rattle.judgement.specs.declared.phase.Phase.TheVariants.{Fresh, Greeted, Mail, Rcpt, Data, Chunks, Spoiled, Ended}
 use Rattle.protocol.specs.declared.reply.Reply.{Reply}
@@ -82,14 +82,14 @@ refused st r false = answer r st
 -- What a line that is judged so is answered, where `asked` is the directory's answer for its recipient. A well-formed BDAT has
 -- none: its chunk is answered.
 abbrev pub heeded : (RcptLine → Option ℕ) → Standing → Judged → Option Answer
-heeded asked st (judged.Refused r ends) = Some (refused st r ends)
-heeded asked st judged.Hello = Some (answer reply.Hello (idle Greeted))
-heeded asked st judged.Extended = Some (answer reply.Extensions (idle Greeted))
-heeded asked st judged.Mail = Some (answer reply.Done (idle Mail))
-heeded asked st (judged.Rcpt line) = Some (recipient st (asked line))
-heeded asked st judged.Data = Some (answer reply.GoAhead (moved st Data))
-heeded asked st (judged.Chunk c) = None
-heeded asked st judged.Reset = Some (answer reply.Done (idle (after_reset st.phase)))
-heeded asked st judged.Noop = Some (answer reply.Done st)
-heeded asked st judged.Verify = Some (answer reply.CannotVerify st)
-heeded asked st judged.Quit = Some (answer reply.Closing (moved st Ended))
+heeded asked st (Err r) = Some (refused st r.reply r.ends)
+heeded asked st (Ok asks.Hello) = Some (answer reply.Hello (idle Greeted))
+heeded asked st (Ok asks.Extended) = Some (answer reply.Extensions (idle Greeted))
+heeded asked st (Ok asks.Mail) = Some (answer reply.Done (idle Mail))
+heeded asked st (Ok (asks.Rcpt line)) = Some (recipient st (asked line))
+heeded asked st (Ok asks.Data) = Some (answer reply.GoAhead (moved st Data))
+heeded asked st (Ok (asks.Chunk c)) = None
+heeded asked st (Ok asks.Reset) = Some (answer reply.Done (idle (after_reset st.phase)))
+heeded asked st (Ok asks.Noop) = Some (answer reply.Done st)
+heeded asked st (Ok asks.Verify) = Some (answer reply.CannotVerify st)
+heeded asked st (Ok asks.Quit) = Some (answer reply.Closing (moved st Ended))

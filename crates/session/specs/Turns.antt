@@ -1,10 +1,10 @@
 -- The turns of a conversation, over whole octet strings: a command line, a chunk with its line, or a message.
-use Rattle.std.specs.Prelude.{◌≡◌, ℕ, ◌+◌, ◌%◌, ◌<◌, Bool, true, false, cond, List, [], ◌∷◌, ◌++◌, length, take, drop, Some, None, Option, nat_le, nat_lt, slice_set}
+use Rattle.std.specs.Prelude.{◌≡◌, ℕ, ◌+◌, ◌%◌, ◌<◌, Bool, true, false, cond, List, [], ◌∷◌, ◌++◌, length, take, drop, Some, None, Option, nat_le, nat_lt, slice_set, Ok}
 use Rattle.command.specs.declared.argument.RcptLine.{RcptLine}
 use Rattle.command.specs.declared.chunk.Chunk.{Chunk}
 use Rattle.judgement.specs.Judgements.{JudgedAs, Line, argument_in}
-use Rattle.judgement.specs.declared.judged.Judged.{Judged}
-use Rattle.judgement.specs.declared.judged.Judged.TheVariants as judged
+use Rattle.judgement.specs.Judgements.{Judged}
+use Rattle.judgement.specs.declared.judged.Asked.TheVariants as asks
 use Rattle.judgement.specs.declared.phase.Kind.{Kind}
 use Rattle.judgement.specs.declared.phase.Phase.{Phase}
 use Rattle.judgement.specs.declared.phase.Phase.TheVariants.{Data, Chunks, Spoiled, Greeted, Ended}
@@ -107,7 +107,7 @@ pub data Turned (g : Setting) (p : Place) : List ℕ → Outcome → Place → T
       Enrols p.standing a.after p.sheet sheet →
       Turned g p (ended text) (answered a.reply) (record { standing = a.after; area = p.area; sheet = sheet })
   chunk : (text body : List ℕ) (c : Chunk) → commands p.standing.phase ≡ true → Unbroken text →
-      JudgedAs (line_in g p.standing.phase text) (judged.Chunk c) → length body ≡ c.size →
+      JudgedAs (line_in g p.standing.phase text) (Ok (asks.Chunk c)) → length body ≡ c.size →
       Turned g p (ended text ++ body) (chunk_outcome g.size p.standing body c.last)
       (record { standing = chunk_after g.size p.standing body c.last; area = chunk_area g.size p.standing p.area body; sheet = p.sheet })
   message : (octets payload : List ℕ) → p.standing.phase ≡ Data → Message octets payload →
@@ -118,6 +118,6 @@ pub data Turned (g : Setting) (p : Place) : List ℕ → Outcome → Place → T
 pub data Pending (g : Setting) (st : Standing) : List ℕ → Type 0 where
   in_line : (rest : List ℕ) → commands st.phase ≡ true → Unbroken rest → Pending g st rest
   in_chunk : (text body : List ℕ) (c : Chunk) → commands st.phase ≡ true → Unbroken text →
-      JudgedAs (line_in g st.phase text) (judged.Chunk c) → length body < c.size → Pending g st (ended text ++ body)
+      JudgedAs (line_in g st.phase text) (Ok (asks.Chunk c)) → length body < c.size → Pending g st (ended text ++ body)
   in_message : (rest : List ℕ) → st.phase ≡ Data → Unfinished rest → Pending g st rest
   over : st.phase ≡ Ended → Pending g st []

@@ -1,11 +1,11 @@
 ghost use Rattle.std.specs.Prelude.{◌≡◌, ◌+◌, ◌≤◌, false, length, if◌then◌else◌, nat_le};
 ghost use Rattle.judgement.specs.declared.phase.Phase.TheVariants as phases;
-ghost use Rattle.protocol.specs.Outputs.{put};
 ghost use Rattle.session.specs.Places.{Announced, ChunkEnds, Started};
 ghost use Rattle.session.specs.Standings.{takes_chunks};
 ghost use Rattle.session.specs.declared.session.Event.TheVariants as events;
 ghost use Rattle.spool.specs.Lists.{records};
 
+use crate::hear::Sheet;
 use crate::session::{ChunkPart, Event, Mode, Session};
 use command::chunk::Chunk;
 use judgement::phase::Phase;
@@ -15,11 +15,7 @@ use protocol::reply::Reply;
 fn takes_chunks(phase: Phase) -> bool
     ensures { result ≡ takes_chunks phase }
 {
-    match phase {
-        Phase::Rcpt => true,
-        Phase::Chunks => true,
-        _ => false,
-    }
+    matches!(phase, Phase::Rcpt | Phase::Chunks)
 }
 
 // Whether a chunk of a size joins the payload kept so far in an area.
@@ -29,18 +25,9 @@ fn joins(phase: Phase, kept: usize, size: usize, area: usize) -> bool
     takes_chunks(phase) && size <= area.saturating_sub(kept)
 }
 
-// Puts octets into an area from a place on, where they fit.
-pub(crate) fn lay(area: &mut [u8], at: usize, octets: &[u8])
-    ensures { area.new ≡ put area.old at octets.now }
-{
-    if at <= area.len() && octets.len() <= area.len() - at {
-        area[at..at + octets.len()].copy_from_slice(octets);
-    }
-}
-
 impl Session {
     // The message ends: the transaction is dropped, and its recipients and its payload are handed on.
-    pub(crate) fn end_message(&mut self, payload: Option<usize>, sheet: &[usize]) -> Event
+    pub(crate) fn end_message(&mut self, payload: Option<usize>, sheet: &Sheet) -> Event
         ensures answer { result ≡ events.MessageEnd (length (records self.old.recipients sheet.now)) payload }
         ensures started { Started self.old self.new phases.Greeted }
     {
@@ -58,7 +45,7 @@ impl Session {
         chunk: Chunk,
         joins: bool,
         area: &[u8],
-        sheet: &[usize],
+        sheet: &Sheet,
     ) -> Event
         ensures { ChunkEnds self.old self.new area.now sheet.now chunk joins result }
     {
@@ -66,32 +53,34 @@ impl Session {
         if !takes_chunks(self.phase) {
             return Event::Answered(Reply::OutOfOrder);
         }
-        if !joins {
-            if chunk.last {
-                return self.end_message(None, sheet);
+        let payload = joins.then(|| self.kept.saturating_add(chunk.size).min(area.len()));
+        match payload {
+            _ if chunk.last => self.end_message(payload, sheet),
+            Some(kept) => {
+                self.kept = kept;
+                self.phase = Phase::Chunks;
+                Event::Answered(Reply::Done)
             }
-            self.start(Phase::Spoiled);
-            return Event::Answered(Reply::TooLarge);
+            None => {
+                self.start(Phase::Spoiled);
+                Event::Answered(Reply::TooLarge)
+            }
         }
-        let kept = self.kept.saturating_add(chunk.size).min(area.len());
-        if chunk.last {
-            return self.end_message(Some(kept), sheet);
-        }
-        self.kept = kept;
-        self.phase = Phase::Chunks;
-        Event::Answered(Reply::Done)
     }
 
     // A chunk is announced; one of no octets ends with its line.
-    pub(crate) fn announce(&mut self, chunk: Chunk, area: &[u8], sheet: &[usize]) -> Event
+    pub(crate) fn announce(&mut self, chunk: Chunk, area: &[u8], sheet: &Sheet) -> Event
         ensures { Announced self.old self.new area.now sheet.now chunk result }
     {
         let joins = joins(self.phase, self.kept, chunk.size, area.len());
         if chunk.size == 0 {
             return self.end_chunk(chunk, joins, area, sheet);
         }
-        let got = 0;
-        self.mode = Mode::Chunk(ChunkPart { chunk, got, joins });
+        self.mode = Mode::Chunk(ChunkPart {
+            chunk,
+            got: 0,
+            joins,
+        });
         Event::More
     }
 }

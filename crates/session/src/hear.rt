@@ -3,12 +3,11 @@ ghost use Rattle.judgement.specs.declared.phase.Phase.TheVariants as phases;
 ghost use Rattle.session.specs.Places.{Hears, Heeding, Opens, Still, setting_of};
 ghost use Rattle.session.specs.declared.session.Mode.TheVariants as modes;
 
-use crate::chunk::lay;
 use crate::obey::seek;
 use crate::session::{ChunkPart, Event, Heard, Mode, Session};
 use directory::directory::Directory;
 use judgement::judge::judge;
-use judgement::judged::Judged;
+use judgement::judged::Asked;
 use judgement::phase::{Kind, Phase};
 use protocol::line::LineBuffer;
 use protocol::part::DataPart;
@@ -16,6 +15,9 @@ use spool::list::OrderedList;
 
 // How many records a sheet has.
 pub const RECORDS: usize = 100;
+
+// A sheet, whose first records are the recipients.
+pub(crate) type Sheet = [usize; RECORDS];
 
 impl Session {
     // A conversation that begins.
@@ -36,10 +38,7 @@ impl Session {
     pub fn is_ended(&self) -> bool
         ensures { Decides result (self.now.phase ≡ phases.Ended) }
     {
-        match self.phase {
-            Phase::Ended => true,
-            _ => false,
-        }
+        self.phase == Phase::Ended
     }
 
     // One octet of a command line.
@@ -49,11 +48,10 @@ impl Session {
         name: &[u8],
         octet: u8,
         area: &[u8],
-        sheet: &mut [usize],
+        sheet: &mut Sheet,
     ) -> Event
         requires mode { self.old.mode ≡ modes.Line }
         requires open { self.old.phase ≢ phases.Ended }
-        requires long { length sheet.old ≡ 100 }
         ensures { Hears (setting_of self.old name.now area.now (D.Directory.told directory.now)) self.old self.new area.now area.now sheet.old sheet.new (octet ∷ []) result }
     {
         if !self.line.push(octet) {
@@ -64,40 +62,32 @@ impl Session {
         let asked = seek(directory, name, text, judged);
         self.line.clear();
         match judged {
-            Judged::Chunk(chunk) => self.announce(chunk, area, sheet),
+            Ok(Asked::Chunk(chunk)) => self.announce(chunk, area, sheet),
             _ => Event::Answered(self.obey(judged, asked, sheet)),
         }
     }
 
     // Octets of a chunk.
-    fn hear_chunk(
-        &mut self,
-        part: ChunkPart,
-        input: &[u8],
-        area: &mut [u8],
-        sheet: &[usize],
-    ) -> Heard
+    fn hear_chunk(&mut self, part: ChunkPart, input: &[u8], area: &mut [u8], sheet: &Sheet) -> Heard
         requires mode { self.old.mode ≡ modes.Chunk part }
-        requires some { 0 < length input.now }
         ensures within { result.taken ≤ length input.now }
-        ensures some { 0 < result.taken }
+        ensures some { 0 < length input.now → 0 < result.taken }
         ensures hears { Heeding self.old self.new area.old area.new sheet.now (take result.taken input.now) result.event }
     {
-        let chunk = part.chunk;
-        let joins = part.joins;
+        let ChunkPart { chunk, joins, .. } = part;
         let count = (chunk.size - part.got).min(input.len());
-        if joins {
-            lay(area, self.kept.saturating_add(part.got), &input[0..count]);
-        }
         let got = part.got + count;
-        if got < chunk.size {
-            self.mode = Mode::Chunk(ChunkPart { chunk, got, joins });
-            return Heard {
-                taken: count,
-                event: Event::More,
-            };
+        let at = self.kept.saturating_add(part.got);
+        let end = at.saturating_add(count);
+        if joins && end <= area.len() {
+            area[at..end].copy_from_slice(&input[..count]);
         }
-        let event = self.end_chunk(chunk, joins, area, sheet);
+        let event = if got < chunk.size {
+            self.mode = Mode::Chunk(ChunkPart { chunk, got, joins });
+            Event::More
+        } else {
+            self.end_chunk(chunk, joins, area, sheet)
+        };
         Heard {
             taken: count,
             event,
@@ -105,31 +95,29 @@ impl Session {
     }
 
     // Octets of a data part.
-    fn hear_data(&mut self, part: DataPart, input: &[u8], area: &mut [u8], sheet: &[usize]) -> Heard
+    fn hear_data(
+        &mut self,
+        mut part: DataPart,
+        input: &[u8],
+        area: &mut [u8],
+        sheet: &Sheet,
+    ) -> Heard
         requires mode { self.old.mode ≡ modes.Data part }
-        requires some { 0 < length input.now }
         ensures within { result.taken ≤ length input.now }
-        ensures some { 0 < result.taken }
+        ensures some { 0 < length input.now → 0 < result.taken }
         ensures hears { Heeding self.old self.new area.old area.new sheet.now (take result.taken input.now) result.event }
     {
-        let mut part = part;
         let fed = part.feed(input, area);
-        if fed.ended {
+        let event = if fed.ended {
             self.mode = Mode::Line;
-            let payload = if part.is_over() {
-                None
-            } else {
-                Some(part.kept())
-            };
-            return Heard {
-                taken: fed.taken,
-                event: self.end_message(payload, sheet),
-            };
-        }
-        self.mode = Mode::Data(part);
+            self.end_message(part.payload(), sheet)
+        } else {
+            self.mode = Mode::Data(part);
+            Event::More
+        };
         Heard {
             taken: fed.taken,
-            event: Event::More,
+            event,
         }
     }
 
@@ -148,16 +136,23 @@ impl Session {
         ensures hears { Hears (setting_of self.old name.now area.old (D.Directory.told directory.now)) self.old self.new area.old area.new sheet.old sheet.new (take result.taken input.now) result.event }
         ensures none { result.taken ≡ 0 → Still self.old self.new area.old area.new sheet.old sheet.new result.event }
     {
-        if input.len() == 0 || sheet.len() != RECORDS || self.is_ended() {
-            return Heard {
-                taken: 0,
-                event: Event::More,
-            };
+        let nothing = Heard {
+            taken: 0,
+            event: Event::More,
+        };
+        if self.is_ended() {
+            return nothing;
         }
+        let [octet, ..] = input else {
+            return nothing;
+        };
+        let Some(sheet) = sheet.as_mut_array::<RECORDS>() else {
+            return nothing;
+        };
         match self.mode {
             Mode::Line => Heard {
                 taken: 1,
-                event: self.hear_line(directory, name, input[0], area, sheet),
+                event: self.hear_line(directory, name, *octet, area, sheet),
             },
             Mode::Chunk(part) => self.hear_chunk(part, input, area, sheet),
             Mode::Data(part) => self.hear_data(part, input, area, sheet),

@@ -1,18 +1,18 @@
-ghost use Rattle.std.specs.Prelude.{◌≡◌, ◌<◌, ◌≤◌, length, IfSome, ◌≢◌};
-ghost use Rattle.command.specs.Lines.{argument_part};
+ghost use Rattle.std.specs.Prelude.{◌≡◌, Ok, ◌≢◌};
+ghost use Rattle.command.specs.declared.argument.RcptLine.{RcptLine};
 ghost use Rattle.command.specs.declared.chunk.Chunk.{Chunk};
-ghost use Rattle.judgement.specs.declared.judged.Judged.{Judged};
-ghost use Rattle.judgement.specs.declared.judged.Judged.TheVariants as judgements;
-ghost use Rattle.protocol.specs.Lines.{trim};
+ghost use Rattle.judgement.specs.declared.judged.Asked.TheVariants as asks;
+ghost use Rattle.judgement.specs.declared.phase.Phase.TheVariants as phases;
 ghost use Rattle.session.specs.Places.{Obeyed, Started};
-ghost use Rattle.session.specs.Seeking.{IsRcpt, Seeks};
+ghost use Rattle.session.specs.Seeking.{Seeks, number_of};
 ghost use Rattle.session.specs.Standings.{after_reset};
 
-use crate::session::{Mode, Session};
+use crate::hear::{RECORDS, Sheet};
+use crate::session::{Mailbox, Mode, Session};
 use command::argument::behind_to;
 use command::line::argument_of;
 use directory::directory::Directory;
-use judgement::judged::Judged;
+use judgement::judged::{Asked, Judged};
 use judgement::phase::Phase;
 use paths::envelope::{domain_of, local_part_of};
 use protocol::line::trimmed;
@@ -25,29 +25,27 @@ pub(crate) fn seek<D: Directory>(
     name: &[u8],
     text: &[u8],
     judged: Judged,
-) -> Option<usize>
-    ensures answer { Seeks (D.Directory.told directory.now) name.now text.now judged result }
-    ensures known { IfSome result (λ m. m < 64) }
+) -> Option<Mailbox>
+    ensures { Seeks (D.Directory.told directory.now) name.now text.now judged (number_of result) }
 {
-    match judged {
-        Judged::Rcpt(line) => {
-            let route = behind_to(argument_of(trimmed(text)));
-            directory.mailbox(
-                local_part_of(route, line.path),
-                domain_of(route, name, line.path),
-            )
-        }
-        _ => None,
-    }
+    let Ok(Asked::Rcpt(line)) = judged else {
+        return None;
+    };
+    let route = behind_to(argument_of(trimmed(text)));
+    let local = local_part_of(route, line.path);
+    let domain = domain_of(route, name, line.path);
+    let number = directory.mailbox(local, domain)?;
+    Some(Mailbox { number })
 }
 
 // The phase after RSET: before a hello it is Fresh still.
 fn after_reset(phase: Phase) -> Phase
     ensures { result ≡ after_reset phase }
 {
-    match phase {
-        Phase::Fresh => Phase::Fresh,
-        _ => Phase::Greeted,
+    if phase == Phase::Fresh {
+        Phase::Fresh
+    } else {
+        Phase::Greeted
     }
 }
 
@@ -62,73 +60,70 @@ impl Session {
     }
 
     // A recipient for whom the directory told a mailbox, or none.
-    fn enrol(&mut self, asked: Option<usize>, sheet: &mut [usize], judged: Judged) -> Reply
-        requires known { IfSome asked (λ m. m < 64) }
-        requires long { length sheet.old ≡ 100 }
-        requires verb { IsRcpt judged }
-        ensures { Obeyed self.old self.new sheet.old sheet.new asked judged result }
+    fn enrol(&mut self, asked: Option<Mailbox>, sheet: &mut Sheet) -> Reply
+        ensures { (line : RcptLine) → Obeyed self.old self.new sheet.old sheet.new (number_of asked) (Ok (asks.Rcpt line)) result }
     {
-        if self.recipients.len(sheet) >= 100 {
+        if self.recipients.len(sheet) >= RECORDS {
             return Reply::TooManyRecipients;
         }
-        match asked {
-            Some(mailbox) => {
-                let _ = self.recipients.append(sheet, mailbox);
-                self.phase = Phase::Rcpt;
-                Reply::Done
-            }
-            None => Reply::NoSuchMailbox,
-        }
+        let Some(mailbox) = asked else {
+            return Reply::NoSuchMailbox;
+        };
+        let _ = self.recipients.append(sheet, mailbox.number);
+        self.phase = Phase::Rcpt;
+        Reply::Done
+    }
+
+    // Drops the transaction, and answers in another phase.
+    fn restart(&mut self, phase: Phase, reply: Reply) -> Reply
+        ensures started { Started self.old self.new phase }
+        ensures answer { result ≡ reply }
+    {
+        self.start(phase);
+        reply
+    }
+
+    // The conversation ends with a reply.
+    fn end(&mut self, reply: Reply) -> Reply
+        ensures ended { self.new ≡ record self.old { phase = phases.Ended } }
+        ensures answer { result ≡ reply }
+    {
+        self.phase = Phase::Ended;
+        reply
     }
 
     // Does what a command line asks for in this phase. A line that announces a chunk is not obeyed here.
     pub(crate) fn obey(
         &mut self,
         judged: Judged,
-        asked: Option<usize>,
-        sheet: &mut [usize],
+        asked: Option<Mailbox>,
+        sheet: &mut Sheet,
     ) -> Reply
-        requires plain { (c : Chunk) → judged ≢ judgements.Chunk c }
-        requires known { IfSome asked (λ m. m < 64) }
-        requires long { length sheet.old ≡ 100 }
-        ensures { Obeyed self.old self.new sheet.old sheet.new asked judged result }
+        requires { (c : Chunk) → judged ≢ Ok (asks.Chunk c) }
+        ensures { Obeyed self.old self.new sheet.old sheet.new (number_of asked) judged result }
     {
         match (self.phase, judged) {
-            (_, Judged::Refused { reply, ends }) => {
-                if ends {
-                    self.phase = Phase::Ended;
+            (_, Err(refused)) => {
+                if refused.ends {
+                    self.end(refused.reply)
+                } else {
+                    refused.reply
                 }
-                reply
             }
-            (_, Judged::Hello) => {
-                self.start(Phase::Greeted);
-                Reply::Hello
-            }
-            (_, Judged::Extended) => {
-                self.start(Phase::Greeted);
-                Reply::Extensions
-            }
-            (_, Judged::Mail) => {
-                self.start(Phase::Mail);
-                Reply::Done
-            }
-            (_, Judged::Rcpt(_)) => self.enrol(asked, sheet, judged),
-            (_, Judged::Data) => {
+            (_, Ok(Asked::Hello)) => self.restart(Phase::Greeted, Reply::Hello),
+            (_, Ok(Asked::Extended)) => self.restart(Phase::Greeted, Reply::Extensions),
+            (_, Ok(Asked::Mail)) => self.restart(Phase::Mail, Reply::Done),
+            (_, Ok(Asked::Rcpt(_line))) => self.enrol(asked, sheet),
+            (_, Ok(Asked::Data)) => {
                 self.phase = Phase::Data;
                 self.mode = Mode::Data(DataPart::new());
                 Reply::GoAhead
             }
-            (phase, Judged::Reset) => {
-                self.start(after_reset(phase));
-                Reply::Done
-            }
-            (_, Judged::Noop) => Reply::Done,
-            (_, Judged::Verify) => Reply::CannotVerify,
-            (_, Judged::Quit) => {
-                self.phase = Phase::Ended;
-                Reply::Closing
-            }
-            (_, Judged::Chunk(_)) => unreachable(),
+            (phase, Ok(Asked::Reset)) => self.restart(after_reset(phase), Reply::Done),
+            (_, Ok(Asked::Noop)) => Reply::Done,
+            (_, Ok(Asked::Verify)) => Reply::CannotVerify,
+            (_, Ok(Asked::Quit)) => self.end(Reply::Closing),
+            (_, Ok(Asked::Chunk(_))) => unreachable(),
         }
     }
 }

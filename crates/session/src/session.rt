@@ -7,6 +7,13 @@ use protocol::part::DataPart;
 use protocol::reply::Reply;
 use spool::list::OrderedList;
 
+// A mailbox that the directory told.
+#[derive(Clone, Copy)]
+pub(crate) struct Mailbox {
+    pub(crate) number: usize,
+    ghost below: { number < 64 },
+}
+
 // A chunk that is coming in: what its line announced, how many of its octets came, and whether they join the payload.
 #[derive(Clone, Copy)]
 pub struct ChunkPart {

@@ -1,17 +1,11 @@
-ghost use Rattle.std.specs.Prelude.{◌≡◌, ◌≤◌, length};
-
+use arrayvec::ArrayVec;
 use protocol::reply::Reply;
 
 // The most replies that can wait: one for each recipient of a message.
 pub const MOST: usize = 100;
 
 // The replies of one turn that wait to be written, in order.
-#[derive(Clone, Copy)]
+#[derive(Clone, Drop)]
 pub struct Waiting {
-    pub(crate) replies: [Reply; MOST],
-    pub(crate) count: usize,
-    pub(crate) sent: usize,
-    ghost whole: { length replies ≡ 100 },
-    ghost few: { count ≤ 100 },
-    ghost some: { sent ≤ count },
+    pub(crate) replies: ArrayVec<Reply, MOST>,
 }

@@ -1,11 +1,9 @@
-use Rattle.std.proofs.Common.{◌≡◌, map, length, take, drop}
+use Rattle.std.proofs.Common.{◌≡◌, map, take}
 use Rattle.ends.specs.Filing.{entry}
 use Rattle.ends.specs.Ends.{EachFiled}
 use Rattle.ends.proofs.lmtp.answer_all.Given as goal
 
-abbrev pub invariant-loop-i : goal.invariant-loop-i
-invariant-loop-i g l =
-    EachFiled g.S.Spool.held g.S.Spool.lot g.S.Spool.room l.before l.ledger l.initial.spool l.spool (map (entry l.payload) (take l.i l.recipients)) (take l.i l.replies)
-    × (drop (length l.recipients) l.replies ≡ drop (length l.recipients) l.initial.replies)
+abbrev pub invariant-loop-r : goal.invariant-loop-r
+invariant-loop-r g l =
+    EachFiled g.S.Spool l.before l.ledger l.initial.spool l.spool (map (entry l.message.payload.now) (take l.r-index l.message.recipients.now)) l.replies.items
     × (g.S.Spool.floor l.spool ≡ g.S.Spool.floor l.initial.spool)
-    × (g.S.Spool.within l.initial.spool → g.S.Spool.within l.spool)

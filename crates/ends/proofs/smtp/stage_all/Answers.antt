@@ -1,4 +1,4 @@
-use Rattle.std.proofs.Common.{ℕ, List, map, get_or, is_some, sym, refl, ap, ◌∙◌, subst}
+use Rattle.std.proofs.Common.{ℕ, List, map, get_or, is_some, sym, ap, ◌∙◌, subst}
 use Rattle.std.proofs.lemmas.List.{take_all}
 use Rattle.std.proofs.lemmas.Result.{err_from_is_err_and}
 use Rattle.std.proofs.lemmas.Bool.{ltb-true, ltb-false}
@@ -8,40 +8,33 @@ use Rattle.ends.specs.Ledgers.{counts_of}
 use Rattle.ends.proofs.Chains.{staged_more, first-fault}
 use Rattle.ends.proofs.smtp.stage_all.Goals as goal
 
-pub loop-r-init : goal.loop-r-init
-loop-r-init g c = (c.requires, refl, refl, λ w. w)
-
 pub loop-r-preserved : goal.loop-r-preserved
 loop-r-preserved g c =
     let st = c.in_ok-stage_one.ensures in (
       ap is_some st.tried.grows,
-      staged_more g.S.Spool.held g.S.Spool.lot g.S.Spool.room (counts_of c.args.ledger.now) c.args.spool.now c.loop-r.spool c.stage_one.new.spool c.args.payload.now c.args.recipients.now c.loop-r.r-index c.loop-r-test.true c.loop-r.invariant.1 (ltb-false _ _ (sym c.if-is_full.ensures)) st.tried,
+      staged_more g.S.Spool (counts_of c.args.ledger.now) c.args.spool.now c.loop-r.spool c.stage_one.new.spool c.args.message.now.payload.now c.args.message.now.recipients.now c.loop-r.r-index c.loop-r-test.true c.loop-r.invariant.1 (ltb-false _ _ (sym c.if-is_full.ensures)) st.tried,
       st.floor ∙ c.loop-r.invariant.2,
-      λ w. st.within (c.loop-r.invariant.3 w),
     )
 
 pub returns-in_err-stage_one : goal.returns-in_err-stage_one
 returns-in_err-stage_one g c =
     let p = err_from_is_err_and c.from_residual.result c.from_residual.ensures.1 in
     let st = c.in_err-stage_one.ensures in
-    let w : Why g.S.Spool.held g.S.Spool.lot g.S.Spool.room (counts_of c.args.ledger.now) c.loop-r.spool (entry c.args.payload.now (get_or c.args.recipients.now c.loop-r.r-index 0)) (Room c.in_err-stage_one.field-0.0) = (ltb-false _ _ (sym c.if-is_full.ensures), st.tried.0) in
-    let f = first-fault g.S.Spool.held g.S.Spool.lot g.S.Spool.room (counts_of c.args.ledger.now) c.args.spool.now c.loop-r.spool c.args.payload.now c.args.recipients.now c.loop-r.r-index (Room c.in_err-stage_one.field-0.0) c.loop-r-test.true c.loop-r.invariant.1 w in
+    let w : Why g.S.Spool (counts_of c.args.ledger.now) c.loop-r.spool (entry c.args.message.now.payload.now (get_or c.args.message.now.recipients.now c.loop-r.r-index 0)) (Room c.in_err-stage_one.field-0.0) = (ltb-false _ _ (sym c.if-is_full.ensures), st.tried.0) in
+    let f = first-fault g.S.Spool (counts_of c.args.ledger.now) c.args.spool.now c.loop-r.spool c.args.message.now.payload.now c.args.message.now.recipients.now c.loop-r.r-index (Room c.in_err-stage_one.field-0.0) c.loop-r-test.true c.loop-r.invariant.1 w in
     rw (p.1, p.2) (record {
-      staging = subst (λ (x : g.row.S.Denot). FirstFault g.S.Spool.held g.S.Spool.lot g.S.Spool.room (counts_of c.args.ledger.now) c.args.spool.now x (map (entry c.args.payload.now) c.args.recipients.now) (Room c.in_err-stage_one.field-0.0)) (sym st.tried.1) f;
+      staging = subst (λ (x : g.row.S.Denot). FirstFault g.S.Spool (counts_of c.args.ledger.now) c.args.spool.now x (map (entry c.args.message.now.payload.now) c.args.message.now.recipients.now) (Room c.in_err-stage_one.field-0.0)) (sym st.tried.1) f;
       floor = st.floor ∙ c.loop-r.invariant.2;
-      within = λ w. st.within (c.loop-r.invariant.3 w);
     })
 
 pub returns-then-is_full : goal.returns-then-is_full
 returns-then-is_full g c = record {
-  staging = first-fault g.S.Spool.held g.S.Spool.lot g.S.Spool.room (counts_of c.args.ledger.now) c.args.spool.now c.loop-r.spool c.args.payload.now c.args.recipients.now c.loop-r.r-index Ledger c.loop-r-test.true c.loop-r.invariant.1 (ltb-true _ _ (sym c.if-is_full.ensures));
+  staging = first-fault g.S.Spool (counts_of c.args.ledger.now) c.args.spool.now c.loop-r.spool c.args.message.now.payload.now c.args.message.now.recipients.now c.loop-r.r-index Ledger c.loop-r-test.true c.loop-r.invariant.1 (ltb-true _ _ (sym c.if-is_full.ensures));
   floor = c.loop-r.invariant.2;
-  within = c.loop-r.invariant.3;
 }
 
 pub returns : goal.returns
 returns g c = record {
-  staging = subst (λ (x : List ℕ). StagedAll g.S.Spool.held g.S.Spool.lot g.S.Spool.room (counts_of c.args.ledger.now) c.args.spool.now (map (entry c.args.payload.now) x) c.loop-r.spool) (take_all c.loop-r.r-index c.args.recipients.now c.loop-r-test.false) c.loop-r.invariant.1;
+  staging = subst (λ (x : List ℕ). StagedAll g.S.Spool (counts_of c.args.ledger.now) c.args.spool.now (map (entry c.args.message.now.payload.now) x) c.loop-r.spool) (take_all c.loop-r.r-index c.args.message.now.recipients.now c.loop-r-test.false) c.loop-r.invariant.1;
   floor = c.loop-r.invariant.2;
-  within = c.loop-r.invariant.3;
 }

@@ -6,6 +6,5 @@ use Rattle.ends.proofs.smtp.stage_all.Given as goal
 abbrev pub invariant-loop-r : goal.invariant-loop-r
 invariant-loop-r g l =
     (is_some (g.S.Spool.lot l.spool) ≡ true)
-    × StagedAll g.S.Spool.held g.S.Spool.lot g.S.Spool.room (counts_of l.ledger) l.initial.spool (map (entry l.payload) (take l.r-index l.recipients)) l.spool
+    × StagedAll g.S.Spool (counts_of l.ledger) l.initial.spool (map (entry l.message.payload.now) (take l.r-index l.message.recipients.now)) l.spool
     × (g.S.Spool.floor l.spool ≡ g.S.Spool.floor l.initial.spool)
-    × (g.S.Spool.within l.initial.spool → g.S.Spool.within l.spool)

@@ -10,7 +10,7 @@ rest_whole : (xs : List ℕ) (n : ℕ) → take (length xs - n) (drop n xs) ≡ 
 rest_whole xs n = take_all (length xs - n) (drop n xs) (omega (arith, length-drop n xs))
 
 pub loop-output-init : goal.loop-output-init
-loop-output-init g c = conversing_none g.S.Spool.held g.S.Spool.lot g.S.Spool.room _ _ _ _ _ c.requires.roomy c.requires.wide c.requires.idle
+loop-output-init g c = conversing_none g.S.Spool _ _ _ _ _ c.requires.roomy c.requires.wide c.requires.idle
 
 pub overflow_sub-output : goal.overflow_sub-output
 overflow_sub-output g c = c.loop-output.invariant.some_written
@@ -22,11 +22,10 @@ pub loop-output-preserved-in-Some : goal.loop-output-preserved-in-Some
 loop-output-preserved-in-Some g c =
     let l = c.loop-output in
     let w = c.write-written in
-    conversing_write g.S.Spool.held g.S.Spool.lot g.S.Spool.room c.args.name.now (g.D.Directory.told c.args.directory.now) _ l.seat c.pass.new.self l.ledger l.area l.sheet l.spool c.in-Some.reply c.args.input.now c.args.output.now l.output w.new.output l.taken l.written w.result l.invariant (omega (arith, l.invariant.some_written)) c.in-Some.ensures c.pass.ensures w.ensures.end w.ensures.after w.ensures.within w.auto.output
+    conversing_write g.S.Spool c.args.host.now.name.now (g.D.Directory.told c.args.host.now.directory.now) _ l.seat c.pass.new.self l.ledger l.area l.sheet l.spool c.in-Some.reply c.args.input.now c.args.output.now l.output w.new.output l.taken l.written w.result l.invariant (omega (arith, l.invariant.some_written)) c.in-Some.ensures c.pass.ensures w.ensures.end w.ensures.after w.ensures.within w.auto.output
 
 pub step-taken-requires : goal.step-taken-requires
 step-taken-requires g c = record {
-  long = c.loop-output.auto.sheet ∙ c.requires.long;
   wide = c.loop-output.invariant.wide;
   idle = c.loop-output.invariant.idle;
   quiet = first_none _ c.in-None.ensures;
@@ -43,14 +42,14 @@ loop-output-preserved g c =
     let l = c.loop-output in
     let t = c.step-taken in
     let input = c.args.input.now in
-    let name = c.args.name.now in
-    let find = g.D.Directory.told c.args.directory.now in
+    let name = c.args.host.now.name.now in
+    let find = g.D.Directory.told c.args.host.now.directory.now in
     let m = moment l.seat l.ledger l.area l.sheet l.spool in
     let m' = moment t.new.seat t.new.ledger t.new.area t.new.sheet t.new.spool in
     let e : take (length input - l.taken) (drop l.taken input) ≡ drop l.taken input = rest_whole input l.taken in
     let within : t.result ≤ length (drop l.taken input) = omega (arith, t.ensures.within, ap length e) in
-    let P : List ℕ → Type 0 = λ v. Told g.S.Spool.held g.S.Spool.lot g.S.Spool.room name find m m' (take t.result v) [] in
-    conversing_step g.S.Spool.held g.S.Spool.lot g.S.Spool.room name find _ m m' input c.args.output.now l.output l.taken l.written t.result l.invariant (omega (arith, l.invariant.some_written)) within (omega (arith, within, length-drop l.taken input)) t.ensures.size t.auto.area t.ensures.idle (subst P e t.ensures.told)
+    let P : List ℕ → Type 0 = λ v. Told g.S.Spool name find m m' (take t.result v) [] in
+    conversing_step g.S.Spool name find _ m m' input c.args.output.now l.output l.taken l.written t.result l.invariant (omega (arith, l.invariant.some_written)) within (omega (arith, within, length-drop l.taken input)) t.ensures.size t.auto.area t.ensures.idle (subst P e t.ensures.told)
 
 pub returns : goal.returns
 returns g c =

@@ -5,7 +5,7 @@ use Rattle.receiver.proofs.converse.converse.Given as goal
 
 abbrev pub invariant-loop-output : goal.invariant-loop-output
 invariant-loop-output g l =
-    Conversing g.S.Spool.held g.S.Spool.lot g.S.Spool.room l.name (g.D.Directory.told l.directory)
+    Conversing g.S.Spool l.host.name.now (g.D.Directory.told l.host.directory.now)
     (moment l.initial.seat l.initial.ledger l.initial.area l.initial.sheet l.initial.spool) (moment l.seat l.ledger l.area l.sheet l.spool)
     l.input l.initial.output l.output l.taken l.written
 

@@ -1,13 +1,10 @@
-use Rattle.std.proofs.Common.{ℕ, ◌%◌, List, [], ◌∷◌, map, get_or, take, sym, subst, arith}
-use Rattle.std.proofs.lemmas.List.{length-map, length-take, take_all}
+use Rattle.std.proofs.Common.{◌%◌, List, [], ◌∷◌, map, get_or, take, sym, subst, arith}
+use Rattle.std.proofs.lemmas.List.{length-map, length-take}
 use Rattle.spool.specs.Entries.{Entry}
 use Rattle.ends.specs.Filing.{entry}
 use Rattle.ends.specs.Ledgers.{Counted}
-use Rattle.ends.proofs.Counting.{counted_none, counted_more, count_most, entries_more}
+use Rattle.ends.proofs.Counting.{counted_more, count_most, entries_more}
 use Rattle.ends.proofs.ledger.Ledger.note_all.Goals as goal
-
-pub loop-r-init : goal.loop-r-init
-loop-r-init c = counted_none c.args.self.now
 
 pub note_filed-requires : goal.note_filed-requires
 note_filed-requires c =
@@ -25,8 +22,3 @@ loop-r-preserved c =
     let k = c.note_filed.new.self in
     let more = counted_more l c.loop-r.self k (map (entry []) (take i rs)) (entry [] (get_or rs i 0) ∷ []) c.loop-r.invariant c.note_filed.ensures in
     subst (λ (x : List Entry). Counted l k x) (sym (entries_more [] rs i c.loop-r-test.true)) more
-
-pub returns : goal.returns
-returns c =
-    let rs = c.args.recipients.now in
-    subst (λ (x : List ℕ). Counted c.args.self.now c.loop-r.self (map (entry []) x)) (take_all c.loop-r.r-index rs c.loop-r-test.false) c.loop-r.invariant

@@ -1,74 +1,74 @@
-use Rattle.std.proofs.Common.{Bool, Some, sym, refl, ap, ◌∙◌}
+use Rattle.std.proofs.Common.{◌≡◌, Bool, Ok, Err, Some, sym, refl, ap, ◌∙◌, subst}
+use Rattle.judgement.specs.Judgements.{Judged}
+use Rattle.judgement.specs.declared.judged.Asked.TheVariants as asks
 use Rattle.judgement.specs.declared.phase.Phase.{Phase}
 use Rattle.judgement.specs.declared.phase.Phase.TheVariants as phase
 use Rattle.protocol.specs.declared.reply.Reply.TheVariants as reply
-use Rattle.session.specs.Standings.{answer, commands, heeded, idle, refused}
-use Rattle.session.specs.Places.{for_data, standing_of}
+use Rattle.session.specs.Standings.{answer, commands, idle, refused}
+use Rattle.session.specs.Places.{Obeyed, for_data, standing_of}
+use Rattle.session.specs.Seeking.{number_of}
 use Rattle.session.specs.declared.session.Mode.TheVariants as mode
-use Rattle.session.proofs.Obeying.{ended-line, obeyed_moved, obeyed_start, obeyed_still, resets}
+use Rattle.session.proofs.Obeying.{obeyed_end, obeyed_moved, obeyed_start, obeyed_still, resets}
 use Rattle.session.proofs.session.Session.obey.Goals as goal
 
-pub returns-then-ends : goal.returns-then-ends
-returns-then-ends c =
-    let x = c.args.self.now in
-    let sheet = c.args.sheet.now in
-    obeyed_moved x sheet c.args.asked c.args.judged c.in_default-Refused.reply phase.Ended x.mode (ended-line x.mode) (λ area.
-    let st = standing_of x area sheet in
-    ap (heeded (λ _. c.args.asked) st) c.in_default-Refused.is-1 ∙ ap (λ (b : Bool). Some (refused st c.in_default-Refused.reply b)) c.if-ends.true)
+pub returns-then-refused : goal.returns-then-refused
+returns-then-refused c =
+    let a = c.args in
+    let r = c.in_default-Err.refused in
+    let e : a.judged ≡ Err r = cc in
+    obeyed_end a.self.now c.end.new.self a.sheet.now (number_of a.asked) a.judged (Err r) c.end.result r.reply e c.end.ensures.answer c.end.ensures.ended (λ area. ap (λ (b : Bool). Some (refused (standing_of a.self.now area a.sheet.now) r.reply b)) c.if-refused.true)
 
-pub returns-else-ends : goal.returns-else-ends
-returns-else-ends c =
-    let x = c.args.self.now in
-    let sheet = c.args.sheet.now in
-    obeyed_still x sheet c.args.asked c.args.judged c.in_default-Refused.reply (λ area.
-    let st = standing_of x area sheet in
-    ap (heeded (λ _. c.args.asked) st) c.in_default-Refused.is-1 ∙ ap (λ (b : Bool). Some (refused st c.in_default-Refused.reply b)) c.if-ends.false)
+pub returns-else-refused : goal.returns-else-refused
+returns-else-refused c =
+    let a = c.args in
+    let r = c.in_default-Err.refused in
+    let e : a.judged ≡ Err r = cc in
+    obeyed_still a.self.now a.sheet.now (number_of a.asked) a.judged (Err r) r.reply e (λ area. ap (λ (b : Bool). Some (refused (standing_of a.self.now area a.sheet.now) r.reply b)) c.if-refused.false)
 
-pub returns-in_default-Hello : goal.returns-in_default-Hello
-returns-in_default-Hello c =
-    let s = c.start.ensures in
-    obeyed_start c.args.self.now c.start.new.self c.args.sheet.now c.args.asked c.args.judged reply.Hello phase.Greeted s refl
-    (λ area. ap (heeded (λ _. c.args.asked) (standing_of c.args.self.now area c.args.sheet.now)) c.in_default-Hello.is-1)
+pub returns-in_default-Ok-Hello : goal.returns-in_default-Ok-Hello
+returns-in_default-Ok-Hello c =
+    let a = c.args in
+    let s = c.restart in
+    obeyed_start a.self.now s.new.self a.sheet.now (number_of a.asked) a.judged (Ok asks.Hello) s.result reply.Hello phase.Greeted (let e : a.judged ≡ Ok asks.Hello = cc in e) s.ensures.answer s.ensures.started refl (λ _. refl)
 
-pub returns-in_default-Extended : goal.returns-in_default-Extended
-returns-in_default-Extended c =
-    let s = c.start-in_default-Extended.ensures in
-    obeyed_start c.args.self.now c.start-in_default-Extended.new.self c.args.sheet.now c.args.asked c.args.judged reply.Extensions phase.Greeted s refl
-    (λ area. ap (heeded (λ _. c.args.asked) (standing_of c.args.self.now area c.args.sheet.now)) c.in_default-Extended.is-1)
+pub returns-in_default-Ok-Extended : goal.returns-in_default-Ok-Extended
+returns-in_default-Ok-Extended c =
+    let a = c.args in
+    let s = c.restart-in_default-Ok-Extended in
+    obeyed_start a.self.now s.new.self a.sheet.now (number_of a.asked) a.judged (Ok asks.Extended) s.result reply.Extensions phase.Greeted (let e : a.judged ≡ Ok asks.Extended = cc in e) s.ensures.answer s.ensures.started refl (λ _. refl)
 
-pub returns-in_default-Mail : goal.returns-in_default-Mail
-returns-in_default-Mail c =
-    let s = c.start-in_default-Mail.ensures in
-    obeyed_start c.args.self.now c.start-in_default-Mail.new.self c.args.sheet.now c.args.asked c.args.judged reply.Done phase.Mail s refl
-    (λ area. ap (heeded (λ _. c.args.asked) (standing_of c.args.self.now area c.args.sheet.now)) c.in_default-Mail.is-1)
+pub returns-in_default-Ok-Mail : goal.returns-in_default-Ok-Mail
+returns-in_default-Ok-Mail c =
+    let a = c.args in
+    let s = c.restart-in_default-Ok-Mail in
+    obeyed_start a.self.now s.new.self a.sheet.now (number_of a.asked) a.judged (Ok asks.Mail) s.result reply.Done phase.Mail (let e : a.judged ≡ Ok asks.Mail = cc in e) s.ensures.answer s.ensures.started refl (λ _. refl)
 
-pub returns-in_default-Data : goal.returns-in_default-Data
-returns-in_default-Data c =
-    let x = c.args.self.now in
-    let sheet = c.args.sheet.now in
-    obeyed_moved x sheet c.args.asked c.args.judged reply.GoAhead phase.Data (mode.Data c.new.result) (λ _. for_data c.new.result c.new.ensures) (λ area.
-    ap (heeded (λ _. c.args.asked) (standing_of x area sheet)) c.in_default-Data.is-1)
+pub returns-in_default-Ok-Rcpt : goal.returns-in_default-Ok-Rcpt
+returns-in_default-Ok-Rcpt c =
+    let a = c.args in
+    let P : Judged → Type 0 = λ j. Obeyed a.self.now c.enrol.new.self a.sheet.now c.enrol.new.sheet (number_of a.asked) j c.enrol.result in
+    subst P (sym (let e : a.judged ≡ Ok (asks.Rcpt c.in_default-Ok-Rcpt._line) = cc in e)) (c.enrol.ensures _)
 
-pub returns-in_default-Reset : goal.returns-in_default-Reset
-returns-in_default-Reset c =
-    let x = c.args.self.now in
+pub returns-in_default-Ok-Data : goal.returns-in_default-Ok-Data
+returns-in_default-Ok-Data c =
+    let a = c.args in
+    obeyed_moved a.self.now a.sheet.now (number_of a.asked) a.judged (Ok asks.Data) reply.GoAhead phase.Data (mode.Data c.new.result) (let e : a.judged ≡ Ok asks.Data = cc in e) (λ _ _. for_data c.new.result c.new.ensures) (λ _. refl)
+
+pub returns-in_default-Ok-Reset : goal.returns-in_default-Ok-Reset
+returns-in_default-Ok-Reset c =
+    let a = c.args in
+    let s = c.restart-in_default-Ok-Reset in
     let e = c.after_reset.ensures in
-    obeyed_start x c.start-in_default-Reset.new.self c.args.sheet.now c.args.asked c.args.judged reply.Done c.after_reset.result c.start-in_default-Reset.ensures (ap commands e ∙ resets x.phase)
-    (λ area. ap (heeded (λ _. c.args.asked) (standing_of x area c.args.sheet.now)) c.in_default-Reset.is-1 ∙ ap (λ (p : Phase). Some (answer reply.Done (idle p))) (sym e))
+    obeyed_start a.self.now s.new.self a.sheet.now (number_of a.asked) a.judged (Ok asks.Reset) s.result reply.Done c.after_reset.result (let e : a.judged ≡ Ok asks.Reset = cc in e) s.ensures.answer s.ensures.started (ap commands e ∙ resets a.self.now.phase) (λ _. ap (λ (p : Phase). Some (answer reply.Done (idle p))) (sym e))
 
-pub returns-in_default-Noop : goal.returns-in_default-Noop
-returns-in_default-Noop c =
-    obeyed_still c.args.self.now c.args.sheet.now c.args.asked c.args.judged reply.Done (λ area.
-    ap (heeded (λ _. c.args.asked) (standing_of c.args.self.now area c.args.sheet.now)) c.in_default-Noop.is-1)
+pub returns-in_default-Ok-Noop : goal.returns-in_default-Ok-Noop
+returns-in_default-Ok-Noop c = let a = c.args in obeyed_still a.self.now a.sheet.now (number_of a.asked) a.judged (Ok asks.Noop) reply.Done (let e : a.judged ≡ Ok asks.Noop = cc in e) (λ _. refl)
 
-pub returns-in_default-Verify : goal.returns-in_default-Verify
-returns-in_default-Verify c =
-    obeyed_still c.args.self.now c.args.sheet.now c.args.asked c.args.judged reply.CannotVerify (λ area.
-    ap (heeded (λ _. c.args.asked) (standing_of c.args.self.now area c.args.sheet.now)) c.in_default-Verify.is-1)
+pub returns-in_default-Ok-Verify : goal.returns-in_default-Ok-Verify
+returns-in_default-Ok-Verify c = let a = c.args in obeyed_still a.self.now a.sheet.now (number_of a.asked) a.judged (Ok asks.Verify) reply.CannotVerify (let e : a.judged ≡ Ok asks.Verify = cc in e) (λ _. refl)
 
-pub returns-in_default-Quit : goal.returns-in_default-Quit
-returns-in_default-Quit c =
-    let x = c.args.self.now in
-    let sheet = c.args.sheet.now in
-    obeyed_moved x sheet c.args.asked c.args.judged reply.Closing phase.Ended x.mode (ended-line x.mode) (λ area.
-    ap (heeded (λ _. c.args.asked) (standing_of x area sheet)) c.in_default-Quit.is-1)
+pub returns-in_default-Ok-Quit : goal.returns-in_default-Ok-Quit
+returns-in_default-Ok-Quit c =
+    let a = c.args in
+    let s = c.end-in_default-Ok-Quit in
+    obeyed_end a.self.now s.new.self a.sheet.now (number_of a.asked) a.judged (Ok asks.Quit) s.result reply.Closing (let e : a.judged ≡ Ok asks.Quit = cc in e) s.ensures.answer s.ensures.ended (λ _. refl)
