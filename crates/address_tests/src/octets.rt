@@ -1,8 +1,11 @@
 // What the tests share: texts that repeat a piece, directories' texts and rows, and what calls answer.
+use directory::listing::Listing;
 use directory::row::DirectoryRow;
-use paths::path::{fault_number, read_path};
+use directory::spelling::Spelling;
+use paths::path::read_path;
 use refusals::refusal::Rejected;
 use std::alloc::{AllocError, Global};
+use std::process::Abort;
 
 // A front, a piece so many times, and a back.
 pub(crate) fn repeated(
@@ -21,12 +24,11 @@ pub(crate) fn repeated(
     Ok(octets)
 }
 
-// The fault of what is read as a path; or 0, and where "@" stands and the path ends.
-pub(crate) fn reading(octets: &[u8]) -> (u8, usize, usize) {
-    match read_path(octets) {
-        Ok(path) => (0, path.at, path.end),
-        Err(fault) => (fault_number(fault), 0, 0),
-    }
+// Where "@" stands in what is read as a path, and where the path ends; or the number of the fault.
+pub(crate) fn reading(octets: &[u8]) -> Result<(usize, usize), u8> {
+    read_path(octets)
+        .map(|path| (path.at, path.end))
+        .map_err(u8::from)
 }
 
 // A row, of its offset, length and mailbox.
@@ -38,19 +40,16 @@ pub(crate) fn row((offset, length, mailbox): (usize, usize, usize)) -> Directory
     }
 }
 
-// The number of a build's refusal, which hands back the text and the rows that it was handed; 0 where there is none.
-pub(crate) fn refused<D: Drop>(
-    built: Result<D, Rejected<(Vec<u8>, Vec<DirectoryRow>)>>,
+// The number of the refusal of a build over copies of a text and rows, which are handed back.
+pub(crate) fn refused<S: Spelling>(
+    rt: &(impl Abort + AllocGlobal),
     text: &[u8],
     rows: &[DirectoryRow],
-) -> u8 {
-    match built {
-        Ok(_) => 0,
-        Err(rejected) => {
-            if rejected.given.0.as_slice() != text || rejected.given.1.as_slice() != rows {
-                return u8::MAX;
-            }
-            rejected.refusal.number()
-        }
-    }
+) -> Result<Result<(), u8>, AllocError> {
+    let built = Listing::<S>::new(text.to_vec(rt.alloc())?, rows.to_vec(rt.alloc())?);
+    let Err(Rejected { refusal, given }) = built else {
+        return Ok(Ok(()));
+    };
+    assert!(rt; given.0.as_slice() == text && given.1.as_slice() == rows);
+    Ok(Err(refusal.number()))
 }

@@ -2,58 +2,43 @@
 use paths::envelope::{
     ForwardPath, ReversePath, domain_of, forward_path, local_part_of, reverse_path,
 };
-use paths::path::fault_number;
 use std::test::Fail;
 
-// The fault of what MAIL is given; or 0, and where the path ends.
-fn from(octets: &[u8]) -> (u8, usize) {
-    match reverse_path(octets) {
-        Ok(ReversePath::Sender(path)) => (0, path.end),
-        Ok(ReversePath::Null) => (0, 2),
-        Err(fault) => (fault_number(fault), 0),
-    }
-}
-
-// The same for RCPT.
-fn to(octets: &[u8]) -> (u8, usize) {
-    match forward_path(octets) {
-        Ok(ForwardPath::Recipient(path)) => (0, path.end),
-        Ok(ForwardPath::Postmaster) => (0, 12),
-        Err(fault) => (fault_number(fault), 0),
-    }
-}
-
-const COMMANDS: [(&str, (u8, usize), (u8, usize)); 23] = [
-    ("<>", (0, 2), (2, 0)),
-    ("<> SIZE=9", (0, 2), (2, 0)),
-    ("<>@b>", (0, 2), (2, 0)),
-    ("< >", (2, 0), (2, 0)),
-    ("<", (2, 0), (2, 0)),
-    (">", (1, 0), (1, 0)),
-    ("", (1, 0), (1, 0)),
-    ("<Postmaster>", (3, 0), (0, 12)),
-    ("<POSTMASTER>", (3, 0), (0, 12)),
-    ("<pOSTmaSTER> NOTIFY=NEVER", (3, 0), (0, 12)),
-    ("<Postmaster", (3, 0), (3, 0)),
-    ("<Postmaster >", (3, 0), (3, 0)),
-    ("<Postmaste>", (3, 0), (3, 0)),
-    ("<Postmasters>", (3, 0), (3, 0)),
-    ("<Postmastex>", (3, 0), (3, 0)),
-    ("<\"Postmaster\">", (3, 0), (3, 0)),
-    ("Postmaster>", (1, 0), (1, 0)),
-    ("<Postmaster@c>", (0, 14), (0, 14)),
-    ("<a@b>", (0, 5), (0, 5)),
-    ("<a@b>>", (0, 5), (0, 5)),
-    ("<.a@b>", (2, 0), (2, 0)),
-    ("<a@b-c->", (3, 0), (3, 0)),
-    ("<a@b", (4, 0), (4, 0)),
+// where the path of MAIL ends, and that of RCPT, or the number of the fault
+const COMMANDS: [(&str, Result<usize, u8>, Result<usize, u8>); 23] = [
+    ("<>", Ok(2), Err(2)),
+    ("<> SIZE=9", Ok(2), Err(2)),
+    ("<>@b>", Ok(2), Err(2)),
+    ("< >", Err(2), Err(2)),
+    ("<", Err(2), Err(2)),
+    (">", Err(1), Err(1)),
+    ("", Err(1), Err(1)),
+    ("<Postmaster>", Err(3), Ok(12)),
+    ("<POSTMASTER>", Err(3), Ok(12)),
+    ("<pOSTmaSTER> NOTIFY=NEVER", Err(3), Ok(12)),
+    ("<Postmaster", Err(3), Err(3)),
+    ("<Postmaster >", Err(3), Err(3)),
+    ("<Postmaste>", Err(3), Err(3)),
+    ("<Postmasters>", Err(3), Err(3)),
+    ("<Postmastex>", Err(3), Err(3)),
+    ("<\"Postmaster\">", Err(3), Err(3)),
+    ("Postmaster>", Err(1), Err(1)),
+    ("<Postmaster@c>", Ok(14), Ok(14)),
+    ("<a@b>", Ok(5), Ok(5)),
+    ("<a@b>>", Ok(5), Ok(5)),
+    ("<.a@b>", Err(2), Err(2)),
+    ("<a@b-c->", Err(3), Err(3)),
+    ("<a@b", Err(4), Err(4)),
 ];
 
 #[test]
 fn of_mail_and_rcpt(rt: HostRuntime) {
     for (text, mail, rcpt) in COMMANDS {
         let octets = text.as_bytes();
-        assert_eq!(rt; (from(octets), to(octets)), (mail, rcpt), "{}", text);
+        let sender = reverse_path(octets).map(ReversePath::end);
+        assert_eq!(rt; sender.map_err(u8::from), mail, "{}", text);
+        let recipient = forward_path(octets).map(ForwardPath::end);
+        assert_eq!(rt; recipient.map_err(u8::from), rcpt, "{}", text);
     }
 }
 

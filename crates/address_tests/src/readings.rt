@@ -26,7 +26,7 @@ const PATHS: [(&str, usize, usize); 15] = [
 #[test]
 fn of_paths(rt: HostRuntime) {
     for (text, at, end) in PATHS {
-        assert_eq!(rt; reading(text.as_bytes()), (0, at, end), "{}", text);
+        assert_eq!(rt; reading(text.as_bytes()), Ok((at, end)), "{}", text);
     }
 }
 
@@ -87,7 +87,7 @@ const FAULTS: [(&str, u8); 45] = [
 #[test]
 fn of_faults(rt: HostRuntime) {
     for (text, fault) in FAULTS {
-        assert_eq!(rt; reading(text.as_bytes()), (fault, 0, 0), "{}", text);
+        assert_eq!(rt; reading(text.as_bytes()), Err(fault), "{}", text);
     }
 }
 
@@ -99,31 +99,31 @@ const LABEL: &str = "abcdefghijklmnopqrstuvwxyz-ABCDEFGHIJKLMNOPQRSTUVWXYZ-01234
 const LAST: &str = "abcdefghijklmnopqrstuvwxyz-ABCDEFGHIJKLMNOPQRSTUVWXYZ-012345678>";
 
 // a front, a piece so many times, a back; and what is read
-const LIMITS: [(&str, &str, usize, &str, (u8, usize, usize)); 20] = [
+const LIMITS: [(&str, &str, usize, &str, Result<(usize, usize), u8>); 20] = [
     // local parts of 64 octets, and of more
-    ("<", "a", 64, "@b>", (0, 65, 68)),
-    ("<", "a", 65, "@b>", (2, 0, 0)),
-    ("<", "a.", 31, "bc@d>", (0, 65, 68)),
-    ("<", "a.", 32, "b@c>", (2, 0, 0)),
-    ("<\"", "a", 62, "\"@b>", (0, 65, 68)),
-    ("<\"", "a", 63, "\"@b>", (2, 0, 0)),
-    ("<\"", "\\\"", 31, "\"@b>", (0, 65, 68)),
-    ("<\"", "\\\"", 31, "a\"@b>", (2, 0, 0)),
+    ("<", "a", 64, "@b>", Ok((65, 68))),
+    ("<", "a", 65, "@b>", Err(2)),
+    ("<", "a.", 31, "bc@d>", Ok((65, 68))),
+    ("<", "a.", 32, "b@c>", Err(2)),
+    ("<\"", "a", 62, "\"@b>", Ok((65, 68))),
+    ("<\"", "a", 63, "\"@b>", Err(2)),
+    ("<\"", "\\\"", 31, "\"@b>", Ok((65, 68))),
+    ("<\"", "\\\"", 31, "a\"@b>", Err(2)),
     // the local part is judged first
-    ("<", "a", 65, ">", (2, 0, 0)),
-    ("<", "a", 64, ">", (3, 0, 0)),
+    ("<", "a", 65, ">", Err(2)),
+    ("<", "a", 64, ">", Err(3)),
     // labels of 63 octets, and of 64
-    ("<a@", "b", 63, ">", (0, 2, 67)),
-    ("<a@", "b", 64, ">", (3, 0, 0)),
-    ("<a@b.", "c", 63, ".d>", (0, 2, 71)),
-    ("<a@b.", "c", 64, ".d>", (3, 0, 0)),
+    ("<a@", "b", 63, ">", Ok((2, 67))),
+    ("<a@", "b", 64, ">", Err(3)),
+    ("<a@b.", "c", 63, ".d>", Ok((2, 71))),
+    ("<a@b.", "c", 64, ".d>", Err(3)),
     // domains of 255 octets, and of 256
-    ("<a@", "b.", 127, "c>", (0, 2, 259)),
-    ("<a@", "b.", 127, "cd>", (3, 0, 0)),
-    ("<a@", LABEL, 3, LAST, (0, 2, 259)),
-    ("<a@b.", LABEL, 3, LAST, (3, 0, 0)),
-    ("<a@", LABEL, 4, ">", (3, 0, 0)),
-    (LOCAL, LABEL, 3, LAST, (0, 65, 322)),
+    ("<a@", "b.", 127, "c>", Ok((2, 259))),
+    ("<a@", "b.", 127, "cd>", Err(3)),
+    ("<a@", LABEL, 3, LAST, Ok((2, 259))),
+    ("<a@b.", LABEL, 3, LAST, Err(3)),
+    ("<a@", LABEL, 4, ">", Err(3)),
+    (LOCAL, LABEL, 3, LAST, Ok((65, 322))),
 ];
 
 #[test]
@@ -135,31 +135,30 @@ fn at_the_limits(rt: HostRuntime) -> Result<(), Fail> {
     Ok(())
 }
 
-// What is read with an octet first in the local part and inside it, between quote marks, behind a backslash, first in the
-// domain and inside it.
-fn around(x: u8) -> [u8; 6] {
+// The fault, if there is one, of what is read with an octet first in the local part and inside it, between quote marks, behind a
+// backslash, first in the domain and inside it.
+fn around(x: u8) -> [Option<u8>; 6] {
     [
-        reading(&[b'<', x, b'@', b'b', b'>']).0,
-        reading(&[b'<', b'a', x, b'a', b'@', b'b', b'>']).0,
-        reading(&[b'<', b'"', x, b'"', b'@', b'b', b'>']).0,
-        reading(&[b'<', b'"', b'\\', x, b'"', b'@', b'b', b'>']).0,
-        reading(&[b'<', b'a', b'@', x, b'>']).0,
-        reading(&[b'<', b'a', b'@', b'b', x, b'b', b'>']).0,
+        reading(&[b'<', x, b'@', b'b', b'>']).err(),
+        reading(&[b'<', b'a', x, b'a', b'@', b'b', b'>']).err(),
+        reading(&[b'<', b'"', x, b'"', b'@', b'b', b'>']).err(),
+        reading(&[b'<', b'"', b'\\', x, b'"', b'@', b'b', b'>']).err(),
+        reading(&[b'<', b'a', b'@', x, b'>']).err(),
+        reading(&[b'<', b'a', b'@', b'b', x, b'b', b'>']).err(),
     ]
 }
 
 #[test]
 fn at_every_octet(rt: HostRuntime) {
     for x in [0, 9, 10, 13, 31, 127, 128, 192, 255] {
-        assert_eq!(rt; around(x), [2, 3, 2, 2, 3, 4], "{}", x);
+        assert_eq!(rt; around(x), [2, 3, 2, 2, 3, 4].map(Some), "{}", x);
     }
     // how many octets can stand at each of the six places, where ">" inside the domain ends the path
     let mut counts = [0u16; 6];
     for x in 0..=u8::MAX {
-        let faults = around(x);
-        for i in 0..6 {
-            if faults[i] == 0 {
-                counts[i] = counts[i].wrapping_add(1);
+        for (count, fault) in counts.iter_mut().zip(around(x)) {
+            if fault.is_none() {
+                *count = count.wrapping_add(1);
             }
         }
     }

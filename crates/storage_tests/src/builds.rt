@@ -1,31 +1,49 @@
 // The limits of a build, at both edges. A refused build says 14, and hands back what it was handed.
-use crate::stands::{lawful, log_over, store_over};
+use crate::stands::{Built, lawful, log_over, store_over};
 use filing::single::file;
 use quota::layer::Quota;
-use refusals::refusal::Rejected;
+use spool::entry::Part;
 use spool::interface::Spool;
+use std::alloc::{AllocError, Global};
+use std::process::Abort;
 use std::test::Fail;
 
-fn gives_memory_back<S: Drop, T: Drop>(
-    built: Result<S, Rejected<(Vec<u8>, Vec<T>)>>,
-    octets: usize,
-    rows: usize,
-) -> bool {
-    let Err(rejected) = built else {
-        return false;
-    };
-    let number = rejected.refusal.number();
-    number == 14 && rejected.given.0.len() == octets && rejected.given.1.len() == rows
+fn gives_memory_back<S: Drop, R: Drop>(built: Built<S, R>, octets: usize, rows: usize) -> bool {
+    built.is_err_and(|rejected| {
+        rejected.refusal.number() == 14
+            && rejected.given.0.len() == octets
+            && rejected.given.1.len() == rows
+    })
 }
 
 fn gives_spool_back<S: Spool + Drop>(below: S, entries: usize, octets: usize) -> bool {
-    let count = below.count();
+    let count = below.count(Part::Held);
     let is_open = below.lot_is_open();
-    let Err(rejected) = Quota::build(below, entries, octets) else {
-        return false;
-    };
-    let number = rejected.refusal.number();
-    number == 14 && rejected.given.count() == count && rejected.given.lot_is_open() == is_open
+    Quota::build(below, entries, octets).is_err_and(|rejected| {
+        rejected.refusal.number() == 14
+            && rejected.given.count(Part::Held) == count
+            && rejected.given.lot_is_open() == is_open
+    })
+}
+
+// Holds builds over so many octets and rows to whether they stand.
+fn each_stands_or_not<S: Drop, R: Drop, F: Fn(usize, usize) -> Result<Built<S, R>, AllocError>>(
+    rt: &impl Abort,
+    cases: &[(usize, usize, bool)],
+    over: F,
+) -> Result<(), AllocError>
+    requires { F.IsAlwaysCallable over }
+{
+    for (octets, rows, stands) in cases {
+        let built = over(*octets, *rows)?;
+        assert!(rt;
+            gives_memory_back(built, *octets, *rows) != *stands,
+            "{} {}",
+            *octets,
+            *rows
+        );
+    }
+    Ok(())
 }
 
 #[test]
@@ -38,10 +56,11 @@ fn of_a_log(rt: HostRuntime) -> Result<(), Fail> {
         (512, 0, false),
         (512, 257, false),
     ];
-    for (octets, rows, stands) in cases {
-        let built = log_over(rt.alloc(), octets, rows)?;
-        assert!(rt; gives_memory_back(built, octets, rows) != stands);
-    }
+    each_stands_or_not(
+        &rt,
+        &cases,
+        |octets, rows| log_over(rt.alloc(), octets, rows),
+    )?;
     Ok(())
 }
 
@@ -60,10 +79,11 @@ fn of_a_slot_store(rt: HostRuntime) -> Result<(), Fail> {
         (65537, 1, false),
         (1025, 2, false),
     ];
-    for (octets, rows, stands) in cases {
-        let built = store_over(rt.alloc(), octets, rows)?;
-        assert!(rt; gives_memory_back(built, octets, rows) != stands);
-    }
+    each_stands_or_not(
+        &rt,
+        &cases,
+        |octets, rows| store_over(rt.alloc(), octets, rows),
+    )?;
     Ok(())
 }
 

@@ -1,9 +1,9 @@
 // An ordered list: what does not fit and what is not there is refused by 13, and nothing is altered.
-use crate::stands::{number, same_numbers};
+use crate::stands::number;
 use spool::list::OrderedList;
 
 // Over an empty list in a memory for four.
-fn filled(list: &mut OrderedList, memory: &mut [u8]) -> [u8; 8] {
+fn filled(list: &mut OrderedList, memory: &mut [u8]) -> [Result<(), u8>; 8] {
     [
         number(list.get(memory, 0)),
         number(list.remove(memory, 0)),
@@ -20,13 +20,19 @@ fn filled(list: &mut OrderedList, memory: &mut [u8]) -> [u8; 8] {
 fn full_and_absent(rt: HostRuntime) {
     let mut memory = [0; 4];
     let mut list = OrderedList::new();
-    same_numbers(
-        &rt,
-        &filled(&mut list, &mut memory),
-        &[13, 13, 13, 0, 0, 13, 13, 13],
-    );
+    let expected = [
+        Err(13),
+        Err(13),
+        Err(13),
+        Ok(()),
+        Ok(()),
+        Err(13),
+        Err(13),
+        Err(13),
+    ];
+    assert_eq!(rt; filled(&mut list, &mut memory), expected);
     assert!(rt; list.len(&memory) == 4 && memory == [1, 2, 3, 4]);
     let _ = list.remove(&mut memory, 1);
-    same_numbers(&rt, &[number(list.get(&memory, 3))], &[13]);
-    assert!(rt; list.len(&memory) == 3 && &memory[0..3] == [1, 3, 4].as_slice());
+    assert_eq!(rt; number(list.get(&memory, 3)), Err(13));
+    assert!(rt; list.len(&memory) == 3 && memory[..3] == [1, 3, 4]);
 }
