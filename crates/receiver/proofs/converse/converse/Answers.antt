@@ -1,6 +1,5 @@
-use Rattle.std.proofs.Common.{◌≡◌, ℕ, ◌-◌, ◌≤◌, List, [], length, take, drop, sym, ap, subst, ◌∙◌, inl, inr, arith}
+use Rattle.std.proofs.Common.{◌≡◌, ℕ, ◌-◌, ◌≤◌, List, [], length, take, drop, ap, subst, inl, inr, arith}
 use Rattle.std.proofs.lemmas.List.{length-drop, take_all}
-use Rattle.std.proofs.lemmas.Bool.{true≢false}
 use Rattle.receiver.specs.Moments.{Told, moment}
 use Rattle.receiver.proofs.Conversing.{conversing_none, conversing_step, conversing_write, first_none}
 use Rattle.receiver.proofs.converse.converse.Goals as goal
@@ -12,30 +11,11 @@ rest_whole xs n = take_all (length xs - n) (drop n xs) (omega (arith, length-dro
 pub loop-output-init : goal.loop-output-init
 loop-output-init g c = conversing_none g.S.Spool _ _ _ _ _ c.requires.roomy c.requires.wide c.requires.idle
 
-pub overflow_sub-output : goal.overflow_sub-output
-overflow_sub-output g c = c.loop-output.invariant.some_written
-
-pub loop-output-smaller-in-Some : goal.loop-output-smaller-in-Some
-loop-output-smaller-in-Some g c = omega (arith, c.write-written.ensures.more, c.write-written.ensures.within, c.loop-output.auto.output, c.write-written.auto.output)
-
 pub loop-output-preserved-in-Some : goal.loop-output-preserved-in-Some
 loop-output-preserved-in-Some g c =
     let l = c.loop-output in
     let w = c.write-written in
     conversing_write g.S.Spool c.args.host.now.name.now (g.D.Directory.told c.args.host.now.directory.now) _ l.seat c.pass.new.self l.ledger l.area l.sheet l.spool c.in-Some.reply c.args.input.now c.args.output.now l.output w.new.output l.taken l.written w.result l.invariant (omega (arith, l.invariant.some_written)) c.in-Some.ensures c.pass.ensures w.ensures.end w.ensures.after w.ensures.within w.auto.output
-
-pub step-taken-requires : goal.step-taken-requires
-step-taken-requires g c = record {
-  wide = c.loop-output.invariant.wide;
-  idle = c.loop-output.invariant.idle;
-  quiet = first_none _ c.in-None.ensures;
-  goes = λ e. true≢false (sym (c.is_ended.ensures.1 e) ∙ c.if-is_ended.false);
-  some = omega (arith, ap length (rest_whole c.args.input.now c.loop-output.taken), length-drop c.loop-output.taken c.args.input.now, c.if-taken-input.false);
-}
-
-pub loop-output-smaller : goal.loop-output-smaller
-loop-output-smaller g c =
-    omega (arith, c.step-taken.ensures.some, c.step-taken.ensures.within, ap length (rest_whole c.args.input.now c.loop-output.taken), length-drop c.loop-output.taken c.args.input.now)
 
 pub loop-output-preserved : goal.loop-output-preserved
 loop-output-preserved g c =
