@@ -1,5 +1,5 @@
 ghost use Rattle.std.specs.Prelude.{◌≡◌, ℕ, ◌+◌, ◌-◌, ◌<◌, ◌≤◌, length, take, drop, Decides, MatchOption};
-ghost use Rattle.address.specs.Words.{AllIn, Dotted, IsAtom, IsLabel, IsWord, label_octet, or_dot, run, word_octet};
+ghost use Rattle.address.specs.Words.{AllIn, Dotted, IsLabel, IsWord, label_octet, or_dot, run, word_octet};
 ghost use Rattle.std.specs.List.{prefix_len};
 ghost use Rattle.address.specs.Classes.{let_dig};
 
@@ -24,40 +24,23 @@ impl Word {
         }
     }
 
-    // Whether octets are such a word.
+    // How many octets that it takes stand at the front.
+    fn run(self, s: &[u8]) -> usize
+        ensures { result ≡ prefix_len (word_octet self) s.now }
+    {
+        s.iter().take_while(|octet| self.takes(**octet)).count()
+    }
+
+    // Whether octets, each of which it takes, are such a word.
     fn is(self, octets: &[u8]) -> bool
+        requires { AllIn (word_octet self) octets.now }
         ensures { Decides result (IsWord self octets.now) }
     {
         match self {
-            Word::Atom => is_atom(octets),
+            Word::Atom => !octets.is_empty(),
             Word::Label => is_label(octets),
         }
     }
-
-    // Whether octets are such words with a dot between each and the next.
-    fn are(self, octets: &[u8]) -> bool
-        ensures { Decides result (Dotted self octets.now) }
-    {
-        octets
-            .split(|octet| *octet == b'.')
-            .all(|piece| self.is(piece))
-    }
-
-    // How many octets the longest run of words and dots at the front has.
-    fn run(self, s: &[u8]) -> usize
-        ensures { result ≡ prefix_len (or_dot (word_octet self)) s.now }
-    {
-        s.iter()
-            .take_while(|octet| self.takes(**octet) || **octet == b'.')
-            .count()
-    }
-}
-
-// Whether octets are an atom.
-fn is_atom(octets: &[u8]) -> bool
-    ensures { Decides result (IsAtom octets.now) }
-{
-    !octets.is_empty() && octets.iter().all(|x| Word::Atom.takes(*x))
 }
 
 // Whether an octet is a letter or a digit.
@@ -67,20 +50,29 @@ fn is_let_dig(octet: &u8) -> bool
     is_in(*octet, Class::LetDig)
 }
 
-// Whether octets are a label.
+// Whether octets, each of which a label takes, are a label.
 fn is_label(octets: &[u8]) -> bool
+    requires { AllIn label_octet octets.now }
     ensures { Decides result (IsLabel octets.now) }
 {
     octets.len() <= 63
         && octets.first().is_some_and(is_let_dig)
         && octets.last().is_some_and(is_let_dig)
-        && octets.iter().all(|x| Word::Label.takes(*x))
 }
 
 // How many octets the longest run of words and dots at the front has, where it is words with a dot between each and the next.
 pub(crate) fn dotted(s: &[u8], word: Word) -> Option<usize>
     ensures { MatchOption result (Dotted word (run (or_dot (word_octet word)) s.now) → ⊥) (λ n. (n ≡ prefix_len (or_dot (word_octet word)) s.now) × Dotted word (take n s.now)) }
 {
-    let n = word.run(s);
-    word.are(&s[..n]).then_some(n)
+    let mut rest = s;
+    loop {
+        let (octets, behind) = rest.split_at(word.run(rest));
+        if !word.is(octets) {
+            return None;
+        }
+        match behind {
+            [b'.', after @ ..] => rest = after,
+            _ => return Some(s.len() - behind.len()),
+        }
+    }
 }

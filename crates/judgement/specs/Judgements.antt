@@ -1,6 +1,7 @@
 -- What a command line is judged to be.
 use Rattle.std.specs.Prelude.{◌≡◌, ℕ, ◌<◌, Bool, true, false, ◌⊎◌, List, [], Some, Ok, Err, ◌≢◌, Option, Result}
 use Rattle.address.specs.Parts.{IsDomain, Only}
+use Rattle.paths.specs.Paths.{fault_number}
 use Rattle.command.specs.Arguments.{IsMail, IsRcpt, mail_syntax, rcpt_syntax}
 use Rattle.command.specs.Arguments as argued
 use Rattle.command.specs.Chunks.{IsChunk}
@@ -64,7 +65,7 @@ OutOfOrder phase v = heard_in phase (Some v) ≡ false
 
 -- The reply to a fault of the argument of MAIL or RCPT.
 abbrev pub reply_to : LineFault → Reply
-reply_to (fault.BadPath f) = reply.BadPath f
+reply_to (fault.BadPath f) = reply.BadPath (fault_number f)
 reply_to fault.BadArgument = reply.BadArgument
 reply_to fault.UnknownParameter = reply.UnknownParameter
 

@@ -21,7 +21,7 @@ pub fn reply_to(fault: LineFault) -> Reply
     ensures values { values_of result ≡ (verdict fault).values }
 {
     match fault {
-        LineFault::BadPath(f) => Reply::BadPath(f),
+        LineFault::BadPath(f) => Reply::BadPath(u8::from(f)),
         LineFault::BadArgument => Reply::BadArgument,
         LineFault::UnknownParameter => Reply::UnknownParameter,
     }

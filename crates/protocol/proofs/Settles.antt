@@ -1,5 +1,5 @@
 -- What was heard settles the state.
-use Rattle.std.proofs.Common.{◌≡◌, ℕ, ◌≤◌, List, [], ◌∷◌, ◌++◌, length, take, drop, Option, sym, refl, ap, ◌∙◌, subst, inl, inr, append_assoc, arith}
+use Rattle.std.proofs.Common.{◌≡◌, ℕ, ◌≤◌, Bool, true, false, cond, List, [], ◌∷◌, ◌++◌, length, take, drop, Some, None, Option, sym, refl, ap, ◌∙◌, subst, inl, inr, append_assoc, arith}
 use Rattle.std.specs.List.{flat_map, AllByRecursion}
 use Rattle.std.proofs.lemmas.List.{append-nil, same_from_push}
 use Rattle.protocol.specs.declared.part.DataPart.{DataPart}
@@ -7,10 +7,10 @@ use Rattle.protocol.specs.declared.part.LinePlace.{LinePlace}
 use Rattle.protocol.specs.declared.part.LinePlace.TheVariants.{Start, Inside, Cr, Dot, DotCr}
 use Rattle.protocol.specs.Lines.{Lines}
 use Rattle.protocol.specs.Messages.{Message, Body, carried}
-use Rattle.protocol.specs.DataParts.{At, known, Laid, filled, DataStands, DataEnds, DataLaws}
+use Rattle.protocol.specs.DataParts.{At, known, Laid, filled, payload_of, DataStands, DataEnds, DataLaws}
 use Rattle.protocol.proofs.Breaks.{pushed_some}
 use Rattle.protocol.proofs.Cuts.{one-cut}
-use Rattle.protocol.proofs.Laying.{laid_front, laid-whole, one-laid}
+use Rattle.protocol.proofs.Laying.{laid_front, laid-whole, filled_is, one-laid}
 use Rattle.protocol.proofs.MessageCuts.{one, apart}
 use Rattle.protocol.proofs.Moves.{step}
 use Rattle.protocol.proofs.Takes.{closes}
@@ -60,10 +60,11 @@ one_place DotCr Cr r a b = absurd (b.1 a)
 one_place DotCr Dot r a b = absurd (dot_dotcr r b a)
 one_place DotCr DotCr r a b = refl
 
-same_part : (d e : DataPart) → d.place ≡ e.place → d.payload ≡ e.payload → d ≡ e
-same_part d e a b =
-    ap (λ (x : LinePlace). record { place = x; payload = d.payload }) a
-    ∙ ap (λ (x : Option ℕ). record { place = e.place; payload = x }) b
+same_part : (d e : DataPart) → d.place ≡ e.place → d.kept ≡ e.kept → d.over ≡ e.over → d ≡ e
+same_part d e a b c =
+    ap (λ (x : LinePlace). record { place = x; kept = d.kept; over = d.over }) a
+    ∙ ap (λ (x : ℕ). record { place = e.place; kept = x; over = d.over }) b
+    ∙ ap (λ (x : Bool). record { place = e.place; kept = e.kept; over = x }) c
 
 stands : (heard : List ℕ) (d e : DataPart) (was a b : List ℕ) → DataStands heard d was a → DataStands heard e was b → (d ≡ e) × (a ≡ b)
 stands heard d e was a b s t =
@@ -73,16 +74,16 @@ stands heard d e was a b s t =
     let P : List ℕ → Type 0 = λ x. At d.place x in
     let p : d.place ≡ e.place = one_place d.place e.place t.rest (subst P rs s.place) t.place in
     let same : known d.place s.texts s.rest ≡ known e.place t.texts t.rest = cc in
-    let L : List ℕ → Type 0 = λ x. Laid x was a d.payload in
-    let l = one-laid (known e.place t.texts t.rest) was a b d.payload e.payload (subst L same s.laid) t.laid in
-    (same_part d e p l.0, l.1)
+    let L : List ℕ → Type 0 = λ x. Laid x was a d.kept d.over in
+    let l = one-laid (known e.place t.texts t.rest) was a b d.kept e.kept d.over e.over (subst L same s.laid) t.laid in
+    (same_part d e p l.0 l.1, l.2)
 
-ends : (heard more : List ℕ) (d e : DataPart) (was a b : List ℕ) → DataEnds heard d was a → DataEnds (heard ++ more) e was b → (more ≡ []) × (d.payload ≡ e.payload) × (a ≡ b)
+ends : (heard more : List ℕ) (d e : DataPart) (was a b : List ℕ) → DataEnds heard d was a → DataEnds (heard ++ more) e was b → (more ≡ []) × (d.kept ≡ e.kept) × (d.over ≡ e.over) × (a ≡ b)
 ends heard more d e was a b s t =
     let r = one heard more s.payload t.payload s.message t.message in
-    let L : List ℕ → Type 0 = λ x. Laid x was a d.payload in
-    let l = one-laid t.payload was a b d.payload e.payload (subst L r.1 s.laid) t.laid in
-    (r.0, l.0, l.1)
+    let L : List ℕ → Type 0 = λ x. Laid x was a d.kept d.over in
+    let l = one-laid t.payload was a b d.kept e.kept d.over e.over (subst L r.1 s.laid) t.laid in
+    (r.0, l.0, l.1, l.2)
 
 -- What is known to be payload is payload of every message that may come.
 stays : (more heard : List ℕ) (p : LinePlace) (texts : List (List ℕ)) (rest q : List ℕ) → Lines heard texts rest → AllByRecursion Body texts → At p rest → Message (heard ++ more) q → (tail : List ℕ) × (q ≡ known p texts rest ++ tail)
@@ -106,18 +107,40 @@ stays (x ∷ more) heard p texts rest q c b at m =
           ([], sym (one (heard ++ (x ∷ [])) more (flat_map carried texts) q N M).1 ∙ sym (append-nil (flat_map carried texts)) ∙ ap (λ y. known y texts rest) (sym g.0) ∙ sym (append-nil (known p texts rest)))
     ]
 
-sure : (heard more : List ℕ) (d : DataPart) (was area p : List ℕ) → DataStands heard d was area → Message (heard ++ more) p → (filled d.payload area ≤ length p) × (take (filled d.payload area) area ≡ take (filled d.payload area) p) × (drop (filled d.payload area) area ≡ drop (filled d.payload area) was)
+sure : (heard more : List ℕ) (d : DataPart) (was area p : List ℕ) → DataStands heard d was area → Message (heard ++ more) p → (d.kept ≤ length p) × (take d.kept area ≡ take d.kept p) × (drop d.kept area ≡ drop d.kept was)
 sure heard more d was area p s m =
     let r = stays more heard d.place s.texts s.rest p s.cut s.body s.place m in
-    let n = filled d.payload area in
-    let P : List ℕ → Type 0 = λ t. (n ≤ length t) × (take n area ≡ take n t) × (drop n area ≡ drop n was) in
-    subst P (sym r.1) (laid_front (known d.place s.texts s.rest) r.0 was area d.payload s.laid)
+    let P : List ℕ → Type 0 = λ t. (d.kept ≤ length t) × (take d.kept area ≡ take d.kept t) × (drop d.kept area ≡ drop d.kept was) in
+    subst P (sym r.1) (laid_front (known d.place s.texts s.rest) r.0 was area d.kept d.over s.laid)
+
+whole_told : (heard : List ℕ) (d : DataPart) (was area : List ℕ) (e : DataEnds heard d was area) (n : ℕ) → payload_of d ≡ Some n → (n ≡ length e.payload) × (take n area ≡ e.payload)
+whole_told heard d was area e n is = either d.over refl
+  where
+    either : (w : Bool) → d.over ≡ w → (n ≡ length e.payload) × (take n area ≡ e.payload)
+    either false o =
+        let P : ℕ → Type 0 = λ k. (k ≡ length e.payload) × (take k area ≡ e.payload) in
+        let k : d.kept ≡ n = let q : Some d.kept ≡ Some n = sym (ap (λ w. cond w None (Some d.kept)) o) ∙ is in cc in
+        subst P k (laid-whole e.payload was area d.kept d.over e.laid o)
+    either true o = let q : ◌≡◌ {A = Option ℕ} None (Some n) = sym (ap (λ w. cond w None (Some d.kept)) o) ∙ is in absurd (cc)
+
+sure_told : (heard more : List ℕ) (d : DataPart) (was area p : List ℕ) → DataStands heard d was area → Message (heard ++ more) p → (filled (payload_of d) area ≤ length p) × (take (filled (payload_of d) area) area ≡ take (filled (payload_of d) area) p) × (drop (filled (payload_of d) area) area ≡ drop (filled (payload_of d) area) was)
+sure_told heard more d was area p s m =
+    let P : ℕ → Type 0 = λ k. (k ≤ length p) × (take k area ≡ take k p) × (drop k area ≡ drop k was) in
+    subst P (sym (filled_is (known d.place s.texts s.rest) was area d.kept d.over s.laid)) (sure heard more d was area p s m)
+
+ends_told : (heard more : List ℕ) (d e : DataPart) (was a b : List ℕ) → DataEnds heard d was a → DataEnds (heard ++ more) e was b → (more ≡ []) × (payload_of d ≡ payload_of e) × (a ≡ b)
+ends_told heard more d e was a b s t =
+    let r = ends heard more d e was a b s t in
+    (r.0, ap (λ w. cond w None (Some d.kept)) r.2 ∙ ap (λ k. cond e.over None (Some k)) r.1, r.3)
 
 pub laws : DataLaws
 laws = record {
-  whole = λ heard d was area e n is. laid-whole e.payload was area d.payload n e.laid is;
+  whole = λ heard d was area e n. laid-whole e.payload was area d.kept d.over e.laid n;
   sure = sure;
   stands = stands;
   ends = ends;
+  whole_told = whole_told;
+  sure_told = sure_told;
+  ends_told = ends_told;
   apart = λ heard more d e was a b s t. apart heard more s.payload s.message (record { texts = t.texts; rest = t.rest; cut = t.cut; body = t.body });
 }

@@ -1,5 +1,5 @@
 -- What octets do to a data part and its area.
-use Rattle.std.proofs.Common.{◌≡◌, ℕ, ◌-◌, ◌≤◌, Bool, true, false, List, [], ◌∷◌, ◌++◌, length, get_or, take, drop, Some, Option, sym, refl, ap, ◌∙◌, subst, append_assoc, arith}
+use Rattle.std.proofs.Common.{◌≡◌, ℕ, ◌-◌, ◌≤◌, Bool, true, false, List, [], ◌∷◌, ◌++◌, length, get_or, take, drop, sym, refl, ap, ◌∙◌, subst, append_assoc, arith}
 use Rattle.std.specs.List.{flat_map, AllByRecursion}
 use Rattle.std.proofs.lemmas.List.{append-nil, length-append, take_all, take_at}
 use Rattle.protocol.specs.declared.part.DataPart.{DataPart}
@@ -9,20 +9,19 @@ use Rattle.protocol.specs.Lines.{Lines}
 use Rattle.protocol.specs.Messages.{Message, Body, dot, carried}
 use Rattle.protocol.specs.DataParts.{At, known, Laid, DataStands, DataEnds, DataAfter, DataTook, Adds}
 use Rattle.protocol.proofs.Cuts.{lines_none, lines_end}
-use Rattle.protocol.proofs.Laying.{laid_none}
+use Rattle.protocol.proofs.Laying.{laid_none, laid_is}
 use Rattle.protocol.proofs.Moves.{Moves, run_on}
 
-pub stands_none : (d : DataPart) (was : List ℕ) → At d.place [] → known d.place [] [] ≡ [] → d.payload ≡ Some 0 → DataStands [] d was was
-stands_none d was at none k =
-    let P : List ℕ → Type 0 = λ t. Laid t was was d.payload in
-    let Q : Option ℕ → Type 0 = λ i. Laid [] was was i in
+pub stands_none : (d : DataPart) (was : List ℕ) → At d.place [] → known d.place [] [] ≡ [] → d.kept ≡ 0 → d.over ≡ false → DataStands [] d was was
+stands_none d was at none k o =
+    let P : List ℕ → Type 0 = λ t. Laid t was was d.kept d.over in
     record {
       texts = [];
       rest = [];
       cut = lines_none;
       body = tt;
       place = at;
-      laid = subst P (sym none) (subst Q (sym k) (laid_none was));
+      laid = subst P (sym none) (laid_is [] was was was d.kept 0 d.over false refl k o (laid_none was));
     }
 
 -- Octets that move the line, where what they bring is added.
@@ -34,7 +33,7 @@ took_on p p' octets xs d d' area area' moves is is' adds = record { after = go }
         let P : LinePlace → Type 0 = λ q. At q s.rest in
         let m = moves.from heard s.texts s.rest s.cut s.body (subst P is s.place) in
         let Q : LinePlace → Type 0 = λ q. At q m.rest' in
-        let L : List ℕ → Type 0 = λ t. Laid t was area' d'.payload in
+        let L : List ℕ → Type 0 = λ t. Laid t was area' d'.kept d'.over in
         let grown : known d.place s.texts s.rest ++ xs ≡ known d'.place m.texts' m.rest' =
         ap (λ q. known q s.texts s.rest ++ xs) is ∙ m.grows ∙ ap (λ q. known q m.texts' m.rest') (sym is')
         in
@@ -57,7 +56,7 @@ took_end b d area ten is = let P : ℕ → Type 0 = λ x. DataTook d d area area
     go : (heard was : List ℕ) → DataStands heard d was area → DataEnds (heard ++ (10 ∷ [])) d was area
     go heard was s =
         let P : LinePlace → Type 0 = λ q. At q s.rest in
-        let L : List ℕ → Type 0 = λ t. Laid t was area d.payload in
+        let L : List ℕ → Type 0 = λ t. Laid t was area d.kept d.over in
         record {
           payload = flat_map carried s.texts;
           message = closes heard s.texts s.rest s.cut s.body (subst P is s.place);

@@ -1,6 +1,5 @@
 -- Every reply: its code, the values that it carries, and its octets.
 use Rattle.std.specs.Prelude.{ℕ, ◌+◌, ◌/◌, ◌%◌, List, [], ◌∷◌, ◌++◌, codes, decimal}
-use Rattle.paths.specs.Paths.{fault_number}
 use Rattle.refusals.specs.Causes.{cause_number}
 use Rattle.protocol.specs.declared.reply.Reply.{Reply}
 use Rattle.protocol.specs.declared.reply.Reply.TheVariants.{Greeting, Closing, Hello, Extensions, Done, CannotVerify, GoAhead, TooManyRecipients, LedgerFull, NoRoom, UnknownCommand, BadPath, BadArgument, OutOfOrder, NoSuchMailbox, TooLarge, UnknownParameter}
@@ -44,7 +43,7 @@ saying name size (NoRoom fault) = record {
   further = [];
 }
 saying name size UnknownCommand = fixed 500 (codes "Unknown command")
-saying name size (BadPath fault) = record { code = 501; values = fault_number fault ∷ []; words = codes "Bad path "; detail = decimal (fault_number fault); further = [] }
+saying name size (BadPath fault) = record { code = 501; values = fault ∷ []; words = codes "Bad path "; detail = decimal fault; further = [] }
 saying name size BadArgument = fixed 501 (codes "Bad argument")
 saying name size OutOfOrder = fixed 503 (codes "Out of order")
 saying name size NoSuchMailbox = fixed 550 (codes "No such mailbox")

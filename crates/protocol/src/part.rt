@@ -1,6 +1,6 @@
 ghost use Rattle.std.specs.Prelude.{◌≡◌, ◌≢◌, ℕ, ◌<◌, ◌≤◌, true, false, List, [], ◌∷◌, length, take};
 ghost use Rattle.std.specs.List.{AllByRecursion};
-ghost use Rattle.protocol.specs.DataParts.{Adds, DataAfter, DataLaws, DataStands, DataTook, inside};
+ghost use Rattle.protocol.specs.DataParts.{Adds, DataAfter, DataLaws, DataStands, DataTook, inside, payload_of};
 ghost use Rattle.protocol.specs.Messages.{MessageFacts, MessageLaws};
 ghost use Rattle.protocol.specs.declared.part.LinePlace.TheVariants.{DotCr, Inside};
 
@@ -16,11 +16,12 @@ pub enum LinePlace {
     DotCr,
 }
 
-// The data part of a message between two octets: how much payload the area holds, or none once it goes past the area.
+// The data part of a message between two octets: how much payload the area holds, and whether more came.
 #[derive(Clone, Copy)]
 pub struct DataPart {
     place: LinePlace,
-    payload: Option<usize>,
+    kept: usize,
+    over: bool,
 }
 
 // What a feed did: how many octets it took in either case, and whether the message ended with them.
@@ -37,16 +38,32 @@ impl DataPart {
     {
         DataPart {
             place: LinePlace::Start,
-            payload: Some(0),
+            kept: 0,
+            over: false,
         }
+    }
+
+    // How much payload the area holds.
+    pub fn kept(&self) -> usize
+        ensures { result ≡ self.now.kept }
+    {
+        let kept = self.kept;
+        kept
+    }
+
+    // Whether the payload goes past the area.
+    pub fn is_over(&self) -> bool
+        ensures { result ≡ self.now.over }
+    {
+        let over = self.over;
+        over
     }
 
     // How much payload the area holds: none where it goes past the area.
     pub fn payload(&self) -> Option<usize>
-        ensures { result ≡ self.now.payload }
+        ensures { result ≡ payload_of self.now }
     {
-        let payload = self.payload;
-        payload
+        if self.over { None } else { Some(self.kept) }
     }
 
     // Takes one octet, and answers whether it ended the message.
@@ -68,7 +85,7 @@ impl DataPart {
             }
             LinePlace::Cr => {
                 if octet == b'\n' {
-                    self.put(&[octet], area);
+                    self.put_octet(octet, area);
                     self.place = LinePlace::Start;
                 } else {
                     self.go_on(octet, area);
@@ -95,7 +112,7 @@ impl DataPart {
         if octet == b'\n' {
             return true;
         }
-        self.put(b"\r", area);
+        self.put_octet(b'\r', area);
         self.go_on(octet, area);
         false
     }
@@ -145,8 +162,21 @@ impl DataPart {
         ensures place { self.new.place ≡ inside octet }
         ensures adds { Adds (octet ∷ []) self.old self.new area.old area.new }
     {
-        self.put(&[octet], area);
+        self.put_octet(octet, area);
         self.place = place_inside(octet);
+    }
+
+    // Adds an octet to the payload.
+    fn put_octet(&mut self, octet: u8, area: &mut [u8])
+        ensures place { self.new.place ≡ self.old.place }
+        ensures adds { Adds (octet ∷ []) self.old self.new area.old area.new }
+    {
+        if self.kept < area.len() {
+            area[self.kept] = octet;
+            self.kept += 1;
+        } else {
+            self.over = true;
+        }
     }
 
     // Adds octets to the payload.
@@ -154,20 +184,19 @@ impl DataPart {
         ensures place { self.new.place ≡ self.old.place }
         ensures adds { Adds octets.now self.old self.new area.old area.new }
     {
-        self.payload = match self.payload {
-            Some(at) if at <= area.len() => {
-                let room = area.len() - at;
-                if octets.len() <= room {
-                    let end = at + octets.len();
-                    area[at..end].copy_from_slice(octets);
-                    Some(end)
-                } else {
-                    area[at..].copy_from_slice(&octets[..room]);
-                    None
-                }
-            }
-            _ => None,
+        let Some(room) = area.len().checked_sub(self.kept) else {
+            self.over = true;
+            return;
         };
+        if octets.len() <= room {
+            let end = self.kept + octets.len();
+            area[self.kept..end].copy_from_slice(octets);
+            self.kept = end;
+        } else {
+            area[self.kept..].copy_from_slice(&octets[..room]);
+            self.kept = area.len();
+            self.over = true;
+        }
     }
 }
 

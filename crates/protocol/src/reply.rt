@@ -3,7 +3,6 @@ ghost use Rattle.protocol.specs.Outputs.{behind, put};
 ghost use Rattle.protocol.specs.Replies.{lead_of, octets_of};
 
 use itoa::Buffer;
-use paths::path::PathFault;
 use refusals::refusal::RoomFault;
 
 // Every reply of the receiver. A fixed vector of replies has `Done` in its free places.
@@ -21,7 +20,7 @@ pub enum Reply {
     LedgerFull,
     NoRoom(RoomFault),
     UnknownCommand,
-    BadPath(PathFault),
+    BadPath(u8),
     BadArgument,
     OutOfOrder,
     NoSuchMailbox,
@@ -55,7 +54,7 @@ impl Reply {
                 put_parts(output, at, lead, layer, b".", cause, b"\r\n")
             }
             Reply::BadPath(fault) => {
-                let number = first.format(u8::from(fault)).as_bytes();
+                let number = first.format(fault).as_bytes();
                 put_parts(output, at, lead, number, b"\r\n", b"", b"")
             }
             _ => put_parts(output, at, lead, b"\r\n", b"", b"", b""),

@@ -1,4 +1,4 @@
-ghost use Rattle.std.specs.Prelude.{◌≡◌, min, is_ok, MatchResult};
+ghost use Rattle.std.specs.Prelude.{◌≡◌, min, is_ok, IfOk, MatchResult};
 ghost use Rattle.quota.specs.Quotas.{Kept, allows, lawful, raised};
 ghost use Rattle.quota.specs.Shares.{both, entries_of, octets_of};
 ghost use Rattle.refusals.specs.Refusals.{no_room, notice, plain};
@@ -15,13 +15,14 @@ use spool::interface::Spool;
 pub struct Quota<S: Spool> {
     below: S,
     limits: Limits,
-    ghost kept: { Kept limits (both (S.Spool.held below) (S.Spool.lot below)) },
+    pub ghost kept: { Kept limits (both (S.Spool.held below) (S.Spool.lot below)) },
 }
 
 impl<S: Spool> Quota<S> {
     // A layer over an empty spool, which is handed back where the build is refused.
     pub fn build(below: S, entries: usize, octets: usize) -> Result<Quota<S>, Rejected<S>>
         ensures answer { is_ok result ≡ lawful entries octets (S.Spool.held below) (S.Spool.lot below) }
+        ensures within { IfOk result (λ q. Kept q.limits (both (S.Spool.held q.below) (S.Spool.lot q.below))) }
         ensures values { MatchResult result (λ q. (q.below ≡ below) × (q.limits.entries ≡ entries) × (q.limits.octets ≡ octets)) (λ x. (notice x.refusal ≡ plain 14) × (x.given ≡ below)) }
     {
         if !((1..=1000).contains(&entries)

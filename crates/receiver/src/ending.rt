@@ -7,7 +7,6 @@ ghost use Rattle.session.specs.Turns.{ends};
 ghost use Rattle.std.specs.Option.{option_map};
 ghost use Rattle.std.specs.Prelude.{◌≡◌, ◌≤◌, length, take, None};
 
-use arrayvec::ArrayVec;
 use ends::ledger::Ledger;
 use ends::lmtp::lmtp_end;
 use ends::message::Message;
@@ -36,7 +35,7 @@ fn end_lmtp<S: Spool>(spool: &mut S, ledger: &mut Ledger, message: &Message<'_>)
     ensures { Ended S.Spool kinds.Lmtp ledger.old ledger.new spool.old spool.new message.now.recipients.now message.now.payload.now result }
 {
     match lmtp_end(spool, ledger, message) {
-        Ok(replies) => Waiting::of(replies),
+        Ok(replies) => Waiting::all(&replies),
         Err(_) => unreachable(),
     }
 }
@@ -48,11 +47,7 @@ fn too_large(kind: Kind, recipients: &[usize]) -> Waiting
 {
     match kind {
         Kind::Smtp => Waiting::one(Reply::TooLarge),
-        Kind::Lmtp => {
-            let mut replies = ArrayVec::from([Reply::TooLarge; 100]);
-            replies.truncate(recipients.len());
-            Waiting::of(replies)
-        }
+        Kind::Lmtp => Waiting::of([Reply::TooLarge; 100], recipients.len()),
     }
 }
 

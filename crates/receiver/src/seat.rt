@@ -5,7 +5,7 @@ use session::session::Session;
 use session::waiting::Waiting;
 
 // A session's place in the receiver: its protocol, the length of its area, its conversation and the replies that wait.
-#[derive(Clone, Drop)]
+#[derive(Clone, Copy)]
 pub struct Seat {
     pub(crate) kind: Kind,
     pub(crate) size: usize,

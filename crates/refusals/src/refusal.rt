@@ -3,13 +3,14 @@ ghost use Rattle.refusals.specs.Refusals.{fault};
 ghost use Rattle.refusals.specs.declared.refusal.Refusal.TheVariants.{NoRoom};
 ghost use Rattle.std.specs.Prelude.{◌≡◌, Some, decimal};
 
+use crate::other::OtherCause;
 use std::fmt;
 
 // What there is no room for, in the order in which causes are judged; each has its number.
 #[derive(Clone, Copy, PartialEq, Eq, Debug)]
 pub enum Cause {
     // a payload longer than a slot
-    LongPayload = 1,
+    LongPayload,
     // a slot more
     NoSlot,
     // so many octets more
@@ -20,13 +21,40 @@ pub enum Cause {
     EntryLimit,
     // so many octets more of one mailbox
     OctetLimit,
+    // a cause of another make of spool, by its number
+    Other(OtherCause),
 }
 
 impl From<Cause> for u8 {
     ghost from_gives = { λ cause n. n ≡ cause_number cause };
 
     fn from(cause: Cause) -> u8 {
-        cause as u8
+        match cause {
+            Cause::LongPayload => 1,
+            Cause::NoSlot => 2,
+            Cause::NoOctets => 3,
+            Cause::NoRow => 4,
+            Cause::EntryLimit => 5,
+            Cause::OctetLimit => 6,
+            Cause::Other(other) => other.number,
+        }
+    }
+}
+
+// Every number is the number of one cause: of a case with a name, or of another make of spool.
+impl From<u8> for Cause {
+    ghost from_gives = { λ n cause. cause_number cause ≡ n };
+
+    fn from(number: u8) -> Cause {
+        match number {
+            1 => Cause::LongPayload,
+            2 => Cause::NoSlot,
+            3 => Cause::NoOctets,
+            4 => Cause::NoRow,
+            5 => Cause::EntryLimit,
+            6 => Cause::OctetLimit,
+            _ => Cause::Other(OtherCause { number }),
+        }
     }
 }
 

@@ -51,9 +51,46 @@ fn layer<S: Spool + Drop>(below: S, limits: Limits) -> anyhow::Result<Quota<S>> 
     ))
 }
 
+// What a desk is opened with: the directory and the receiver's own name. The spool is built first, and the desk's memory taken then.
+#[derive(Drop)]
+pub struct Office<'a, D> {
+    pub rt: &'a HostRuntime,
+    pub directory: D,
+    pub name: &'a [u8],
+}
+
+impl<'a, D: Directory + Drop> Office<'a, D> {
+    // Builds the spool that was chosen, and serves it.
+    pub fn serve_choice(self, choice: Choice) -> anyhow::Result<()> {
+        let heap = self.rt.alloc();
+        match choice.store {
+            Store::Slots { count, size } => {
+                self.serve_under(slots_of(heap, count, size)?, choice.layers)
+            }
+            Store::Log { octets, rows } => {
+                self.serve_under(log_of(heap, octets, rows)?, choice.layers)
+            }
+        }
+    }
+
+    // Serves a store under quota layers.
+    fn serve_under<S: Spool + Drop>(self, mut store: S, layers: Layers) -> anyhow::Result<()> {
+        match layers {
+            Layers::Zero => self.serve(&mut store),
+            Layers::One(top) => self.serve(&mut layer(store, top)?),
+            Layers::Two { top, next } => self.serve(&mut layer(layer(store, next)?, top)?),
+        }
+    }
+
+    // Opens a desk over standard input and output, and serves a spool there.
+    fn serve<S: Spool>(self, spool: &mut S) -> anyhow::Result<()> {
+        Desk::new(self.rt, self.directory, self.name)?.serve(spool)
+    }
+}
+
 // Where reports are taken: the directory, the receiver's own name, the input, the output and a buffer for payloads.
 #[derive(Drop)]
-pub struct Desk<'a, D> {
+struct Desk<'a, D> {
     directory: D,
     name: &'a [u8],
     heap: Global,
@@ -64,7 +101,7 @@ pub struct Desk<'a, D> {
 
 impl<'a, D: Directory + Drop> Desk<'a, D> {
     // A desk over standard input and output.
-    pub fn new(rt: &HostRuntime, directory: D, name: &'a [u8]) -> anyhow::Result<Desk<'a, D>> {
+    fn new(rt: &HostRuntime, directory: D, name: &'a [u8]) -> anyhow::Result<Desk<'a, D>> {
         let heap = rt.alloc();
         Ok(Desk {
             directory,
@@ -74,27 +111,6 @@ impl<'a, D: Directory + Drop> Desk<'a, D> {
             output: BufWriter::new(heap, rt.stdout())?,
             buffer: vec![in heap; 0u8; 65536]?,
         })
-    }
-
-    // Builds the spool that was chosen, and serves it.
-    pub fn serve_choice(&mut self, choice: Choice) -> anyhow::Result<()> {
-        match choice.store {
-            Store::Slots { count, size } => {
-                self.serve_under(slots_of(self.heap, count, size)?, choice.layers)
-            }
-            Store::Log { octets, rows } => {
-                self.serve_under(log_of(self.heap, octets, rows)?, choice.layers)
-            }
-        }
-    }
-
-    // Serves a store under quota layers.
-    fn serve_under<S: Spool + Drop>(&mut self, mut store: S, layers: Layers) -> anyhow::Result<()> {
-        match layers {
-            Layers::Zero => self.serve(&mut store),
-            Layers::One(top) => self.serve(&mut layer(store, top)?),
-            Layers::Two { top, next } => self.serve(&mut layer(layer(store, next)?, top)?),
-        }
     }
 
     // Takes each line of the input, and then collects from each mailbox.

@@ -9,7 +9,7 @@ mod names;
 use address::parts::is_domain;
 use anyhow::{Context, anyhow, bail, ensure};
 use choice::Choice;
-use desk::Desk;
+use desk::Office;
 use directory::address_list::Addresses;
 use directory::domain_list::Domains;
 use directory::listing::Listing;
@@ -17,22 +17,33 @@ use directory::spelling::Spelling;
 use names::DirectoryFile;
 use std::{env, fs};
 
-// Builds a directory of the rows of a file, and serves the spool that was chosen.
+// Builds a directory of the rows of a file, whose octets are let go of then.
+fn directory_of<S: Spelling>(rt: &HostRuntime, file: &str) -> anyhow::Result<Listing<S>> {
+    let octets = fs::read(rt, file)?;
+    let DirectoryFile { text, rows } = DirectoryFile::parse(rt.alloc(), octets.as_slice())?;
+    match Listing::<S>::new(text, rows) {
+        Ok(directory) => Ok(directory),
+        Err(rejected) => {
+            eprintln!(rt; "the directory: {}", rejected.refusal)?;
+            Err(anyhow!("the directory is refused"))
+        }
+    }
+}
+
+// Serves the spool that was chosen, for the directory of a file.
 fn serve<S: Spelling>(
     rt: &HostRuntime,
     name: &[u8],
     file: &str,
     choice: Choice,
 ) -> anyhow::Result<()> {
-    let octets = fs::read(rt, file)?;
-    let DirectoryFile { text, rows } = DirectoryFile::parse(rt.alloc(), octets.as_slice())?;
-    match Listing::<S>::new(text, rows) {
-        Ok(directory) => Desk::new(rt, directory, name)?.serve_choice(choice),
-        Err(rejected) => {
-            eprintln!(rt; "the directory: {}", rejected.refusal)?;
-            Err(anyhow!("the directory is refused"))
-        }
+    let directory = directory_of::<S>(rt, file)?;
+    Office {
+        rt,
+        directory,
+        name,
     }
+    .serve_choice(choice)
 }
 
 const USAGE: &str = "usage: reports NAME DIRECTORY SPOOL";

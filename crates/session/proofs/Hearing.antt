@@ -14,7 +14,7 @@ use Rattle.judgement.specs.declared.phase.Phase.{Phase}
 use Rattle.judgement.specs.declared.phase.Phase.TheVariants as phase
 use Rattle.paths.specs.Envelopes.{domain_part, local_part}
 use Rattle.protocol.specs.Buffers.{LineEnds, LinePushed, LineStands, kept, longest}
-use Rattle.protocol.specs.DataParts.{DataEnds, DataStands, DataTook}
+use Rattle.protocol.specs.DataParts.{DataEnds, DataStands, DataTook, payload_of}
 use Rattle.protocol.specs.Lines.{Unbroken, ended, trim}
 use Rattle.protocol.specs.Outputs.{overlaid, put}
 use Rattle.protocol.specs.declared.line.LineBuffer.{LineBuffer}
@@ -214,7 +214,7 @@ module _ (g : Setting) (x : Session) (area area' sheet : List ℕ) (c : ChunkPar
 
 -- The octets that end a data part.
 pub data_ends : (g : Setting) (x x' : Session) (area area' sheet octets : List ℕ) (d d' : DataPart) (e : Event) → g.size ≡ length area → x.mode ≡ mode.Data d → DataTook d d' area area' octets true →
-    e ≡ MessageEnd (length (records x.recipients sheet)) d'.payload → Started (lined x) x' phase.Greeted → Hears g x x' area area' sheet sheet octets e
+    e ≡ MessageEnd (length (records x.recipients sheet)) (payload_of d') → Started (lined x) x' phase.Greeted → Hears g x x' area area' sheet sheet octets e
 data_ends g x x' area area' sheet octets d d' ev w m took is s = record {
   after = λ p rest st.
       let P : Mode → Type 0 = λ y. InMode g p rest x area y in
@@ -227,7 +227,7 @@ data_ends g x x' area area' sheet octets d d' ev w m took is s = record {
       let shown : Option ℕ → Option (List ℕ) = option_map (λ n. take n area') in
       subst A (sym is) (record {
         next = next;
-        turn = subst O (ap (λ (q : Option (List ℕ)). ends p.standing.recipients q) (within_is e.payload p.area area' d'.payload g.size st.base.wide e.laid) ∙ ap (λ (rs : List ℕ). ends rs (shown d'.payload)) (sym (people_are g p x sheet st.base))) (message (rest ++ octets) e.payload i.heard e.message);
+        turn = subst O (ap (λ (q : Option (List ℕ)). ends p.standing.recipients q) (within_is e.payload p.area area' d'.kept d'.over g.size st.base.wide e.laid) ∙ ap (λ (rs : List ℕ). ends rs (shown (payload_of d'))) (sym (people_are g p x sheet st.base))) (message (rest ++ octets) e.payload i.heard e.message);
         stands = record {
           base = record { kind = s.kind ∙ st.base.kind; standing = idle_is x' (laid p.area e.payload) sheet phase.Greeted s.phase s.recipients s.kept; listed = st.base.listed; wide = laid_long p.area e.payload ∙ st.base.wide; records = st.base.records; few = omega (arith, s.recipients); kept = omega (arith, s.kept) };
           mode = in_line next x' area' g s.mode refl (subst L (sym s.line) i.line) e.laid.holds;

@@ -4,6 +4,7 @@ use Rattle.std.specs.Option.{option_map}
 use Rattle.std.proofs.lemmas.Bool.{cond-false, cond-true, leb-true}
 use Rattle.std.proofs.lemmas.List.{length-append, length-drop, length-take, length-take-le, take_all, take-append-drop, take-append-le}
 use Rattle.protocol.specs.Outputs.{overlaid}
+use Rattle.protocol.proofs.Laying.{told_is}
 use Rattle.protocol.proofs.Overlays.{overlaid-both}
 use Rattle.protocol.specs.DataParts.{Laid}
 use Rattle.session.specs.Turns.{laid, within}
@@ -33,10 +34,10 @@ pub laid_front : (was q : List ℕ) → length q ≤ length was → take (length
 laid_front was q h =
     ap (take (length q)) (laid-fits was q h) ∙ take-append-le (length q) q (drop (length q) was) (omega arith) ∙ take_all (length q) q (omega arith)
 
--- A payload as an area holds it, where it is kept count of.
-pub within_is : (p was area : List ℕ) (kept : Option ℕ) (size : ℕ) → length was ≡ size → Laid p was area kept → within size p ≡ option_map (λ n. take n area) kept
-within_is p was area kept size w l =
-    ap (λ (n : ℕ). within n p) (sym w) ∙ either (leb (length p) (length was)) refl ∙ sym (ap (option_map (λ n. take n area)) l.count)
+-- A payload as an area holds it, where it does not go past the area.
+pub within_is : (p was area : List ℕ) (kept : ℕ) (over : Bool) (size : ℕ) → length was ≡ size → Laid p was area kept over → within size p ≡ option_map (λ n. take n area) (cond over None (Some kept))
+within_is p was area kept over size w l =
+    ap (λ (n : ℕ). within n p) (sym w) ∙ either (leb (length p) (length was)) refl ∙ sym (ap (option_map (λ n. take n area)) (told_is p was area kept over l))
   where
     either : (b : Bool) → leb (length p) (length was) ≡ b → cond (leb (length p) (length was)) (Some p) None ≡ option_map (λ n. take n area) (cond (leb (length p) (length was)) (Some (length p)) None)
     either true h =

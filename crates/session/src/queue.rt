@@ -1,4 +1,4 @@
-ghost use Rattle.std.specs.Prelude.{◌≡◌, [], ◌∷◌, length, drop};
+ghost use Rattle.std.specs.Prelude.{◌≡◌, ◌≤◌, min, [], ◌∷◌, length, take, drop};
 ghost use Rattle.session.specs.Queues.{first, waits};
 
 use crate::waiting::{MOST, Waiting};
@@ -10,43 +10,70 @@ impl Waiting {
     pub fn new() -> Waiting
         ensures { waits result ≡ [] }
     {
-        Waiting::of(ArrayVec::new())
+        Waiting {
+            replies: [Reply::Done; MOST],
+            count: 0,
+            sent: 0,
+        }
     }
 
     // One reply waits.
     pub fn one(reply: Reply) -> Waiting
         ensures { waits result ≡ reply ∷ [] }
     {
-        let mut replies = ArrayVec::new();
-        replies.push(reply);
-        Waiting::of(replies)
+        Waiting {
+            replies: [reply; MOST],
+            count: 1,
+            sent: 0,
+        }
     }
 
-    // Some replies wait.
-    pub fn of(replies: ArrayVec<Reply, MOST>) -> Waiting
-        ensures { waits result ≡ replies.items }
+    // The first of some replies wait: so many, as far as there are.
+    pub fn of(replies: [Reply; 100], count: usize) -> Waiting
+        ensures { waits result ≡ take count replies }
     {
-        Waiting { replies }
+        let count = count.min(MOST);
+        Waiting {
+            replies,
+            count,
+            sent: 0,
+        }
+    }
+
+    // All of some replies wait.
+    pub fn all(replies: &ArrayVec<Reply, MOST>) -> Waiting
+        ensures { waits result ≡ replies.now.items }
+    {
+        let told = replies.as_slice();
+        let mut rows = [Reply::Done; MOST];
+        rows[..told.len()].copy_from_slice(told);
+        Waiting::of(rows, told.len())
     }
 
     // How many replies wait.
     pub fn len(&self) -> usize
         ensures { result ≡ length (waits self.now) }
     {
-        self.replies.len()
+        self.count - self.sent
     }
 
     // The reply that is to be written next.
     pub fn next(&self) -> Option<Reply>
         ensures { result ≡ first (waits self.now) }
     {
-        self.replies.first().copied()
+        if self.sent < self.count {
+            Some(self.replies[self.sent])
+        } else {
+            None
+        }
     }
 
     // The next reply was written.
     pub fn pass(&mut self)
         ensures { waits self.new ≡ drop 1 (waits self.old) }
     {
-        let _ = self.replies.pop_at(0);
+        if self.sent < self.count {
+            self.sent += 1;
+        }
     }
 }

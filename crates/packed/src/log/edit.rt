@@ -80,6 +80,7 @@ impl Spool for PackedLog {
 
     ghost empty_has_room = { λ s h l m n k f. free_room s m n (empty_free s h l n f) };
 
+    #[tactic(auto, using(crate::proofs::Telling::count_told))]
     fn count(&self, part: Part) -> usize {
         self.lot.part(self.entry_rows(), part).len()
     }

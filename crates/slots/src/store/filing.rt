@@ -50,6 +50,7 @@ impl Spool for SlotStore {
 
     ghost empty_has_room = { λ s h k m n _ l. empty_room s h k m n l };
 
+    #[tactic(auto, using(crate::proofs::Telling::count_told))]
     fn count(&self, part: Part) -> usize {
         self.lot.part(self.table.rows(), part).len()
     }

@@ -1,4 +1,4 @@
-use Rattle.std.proofs.Common.{length, take, sym, ap, ◌∙◌}
+use Rattle.std.proofs.Common.{sym, ap, ◌∙◌}
 use Rattle.judgement.specs.declared.phase.Kind.{Kind}
 use Rattle.protocol.specs.declared.reply.Reply.TheVariants.{TooLarge}
 use Rattle.session.specs.Places.{mailboxes}
@@ -8,6 +8,5 @@ use Rattle.receiver.proofs.ending.too_large.Goals as goal
 
 pub returns-in-Lmtp : goal.returns-in-Lmtp
 returns-in-Lmtp c =
-    let rs = c.args.recipients.now in
-    c.of.ensures ∙ c.truncate.ensures.items ∙ ap (take (length rs)) c.from-replies.ensures.0 ∙ all_the_same TooLarge rs 100 c.requires
-    ∙ sym (ap (λ (k : Kind). too_large k (mailboxes rs)) c.in-Lmtp.is)
+    c.of.ensures ∙ all_the_same TooLarge c.args.recipients.now 100 c.requires
+    ∙ sym (ap (λ (k : Kind). too_large k (mailboxes c.args.recipients.now)) c.in-Lmtp.is)

@@ -12,4 +12,4 @@ returns-then-octet-eq10 c = took_end _ _ _ c.if-octet-eq10.true c.requires
 pub returns : goal.returns
 returns c =
     took_on DotCr (inside c.args.octet) _ _ _ _ _ _ (dotcr_on _ c.if-octet-eq10.false) c.requires c.go_on.ensures.place
-    (adds_both (13 ∷ []) (c.args.octet ∷ []) c.args.self.now c.put.new.self c.go_on.new.self _ c.put.new.area _ c.put.ensures.adds c.go_on.ensures.adds)
+    (adds_both (13 ∷ []) (c.args.octet ∷ []) c.args.self.now c.put_octet.new.self c.go_on.new.self _ c.put_octet.new.area _ c.put_octet.ensures.adds c.go_on.ensures.adds)

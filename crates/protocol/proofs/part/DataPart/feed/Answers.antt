@@ -1,4 +1,5 @@
-use Rattle.std.proofs.Common.{◌≡◌, ℕ, ◌<◌, List, false, refl, sym, subst, ◌∙◌, arith}
+use Rattle.std.proofs.Common.{◌≡◌, ℕ, ◌-◌, ◌<◌, List, false, length, take, drop, refl, sym, ap, subst, ◌∙◌, arith}
+use Rattle.std.proofs.lemmas.List.{length-append, length-drop, length-take-le}
 use Rattle.std.specs.List.{AllByRecursion}
 use Rattle.std.proofs.lemmas.Bool.{eqb-false}
 use Rattle.protocol.proofs.Takes.{first_then, rests_all, rests_less, rests_took, took_run}
@@ -22,4 +23,8 @@ loop-rest-preserved c =
 
 pub returns-then-take-clause-took : goal.returns-then-take-clause-took
 returns-then-take-clause-took c =
-    rests_took _ c.loop-rest.rest.now _ _ _ _ _ _ _ _ _ _ _ refl c.if-take.true (first_then c.loop-rest.rest.now c.in-len1-up.len_at_least) c.loop-rest.invariant c.take.ensures
+    let rest = c.loop-rest.rest.now in
+    let whole = ap length c.loop-rest.invariant.whole ∙ length-append c.loop-rest.invariant.taken rest in
+    let left = length-drop 1 rest in
+    let later : length (take (length rest - 1) (drop 1 rest)) ≡ length rest - 1 = length-take-le (length rest - 1) (drop 1 rest) (omega arith) in
+    rests_took _ rest _ _ _ _ _ _ _ _ _ _ _ (omega (arith, c.in-len1-up.len_at_least)) c.if-take.true (first_then c.loop-rest.rest.now c.in-len1-up.len_at_least) c.loop-rest.invariant c.take.ensures

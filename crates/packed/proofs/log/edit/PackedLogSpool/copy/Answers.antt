@@ -1,10 +1,14 @@
-use Rattle.std.proofs.Common.{◌≡◌, ◌+◌, ◌-◌, ◌++◌, take, drop, length, ap, ◌∙◌, arith}
+use Rattle.std.proofs.Common.{◌≡◌, ℕ, List, ◌++◌, take, drop, length, ap, ◌∙◌, arith}
 use Rattle.spool.specs.declared.entry.Part.TheVariants.{Held}
 use Rattle.spool.proofs.Lots.{absent_answer, absent_buffer, asked, done_answer, done_buffer, found, short_answer, short_buffer}
 use Rattle.spool.proofs.Told.{told_err}
 use Rattle.packed.specs.Meaning.{entries_of, rows_of}
 use Rattle.packed.specs.Logs.{entries_by_rows, entry_of, known}
 use Rattle.packed.proofs.log.edit.PackedLogSpool.copy.Goals as goal
+
+-- The octets of a payload, by where they begin and how many they are.
+window : (xs : List ℕ) (o l from n : ℕ) → from ≡ o → n ≡ l → take n (drop from xs) ≡ take l (drop o xs)
+window xs o l from n a b = ap (λ v. take v (drop from xs)) b ∙ ap (λ v. take l (drop v xs)) a
 
 pub returns-in_err-row-clause-answer : goal.returns-in_err-row-clause-answer
 returns-in_err-row-clause-answer c =
@@ -53,6 +57,5 @@ returns-clause-buffer c =
     let n = found Held s.lot c.args.at c.entry_rows.result.now (rows_of s) c.entry_rows.ensures c.in_ok-row.row c.in_ok-row.ensures in
     let o = c.in_ok-row.row.offset in
     let l = c.in_ok-row.row.length in
-    let k : o + l - o ≡ l = omega arith in
-    ap (λ v. v ++ drop l c.args.buffer.now) (c.copy_from_slice.ensures.after ∙ ap (λ n. take n (drop o c.deref.result.now)) k ∙ ap (λ v. take l (drop o v)) c.deref.ensures.value)
+    ap (λ v. v ++ drop l c.args.buffer.now) (c.copy_from_slice.ensures.after ∙ window c.deref.result.now o l _ _ (omega arith) (omega arith) ∙ ap (λ v. take l (drop o v)) c.deref.ensures.value)
     ∙ done_buffer (entry_of s) s.lot (entries_of s) (rows_of s) (entries_by_rows s) c.args.at c.args.buffer.now c.in_ok-row.row n l (known Held s c.args.at c.in_ok-row.row n).long c.if-row-buffer.false
