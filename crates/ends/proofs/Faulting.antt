@@ -1,5 +1,5 @@
 -- How a refusal for want of room is a fault, and a fault an answer.
-use Rattle.std.proofs.Common.{◌≡◌, ℕ, zero, suc, ◌<◌, ◌≤◌, false, leb, List, [], ◌∷◌, ◌++◌, length, is_some, is_ok, true, Some, None, Ok, Err, Option, Result, sym, refl, ap, subst, ◌∙◌, arith}
+use Rattle.std.proofs.Common.{◌≡◌, ℕ, zero, suc, ◌<◌, ◌≤◌, false, leb, List, [], length, is_some, is_ok, true, Some, None, Ok, Err, Option, Result, sym, refl, ap, subst, ◌∙◌, arith}
 use Rattle.std.proofs.Math.Nat.{ℕ_set}
 use Rattle.std.proofs.lemmas.Bool.{true≢false, cond-true, le-leb}
 use Rattle.std.specs.Result.{IsErrAnd, MatchResult}

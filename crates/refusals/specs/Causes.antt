@@ -1,4 +1,4 @@
--- Every cause for want of room has a number, which is its place in the order of judgement.
+-- Every cause for want of room has a number. That of a cause with a name is its place in the order of judgement.
 use Rattle.std.specs.Prelude.{ℕ}
 use Rattle.refusals.specs.declared.refusal.Cause.{Cause}
 use Rattle.refusals.specs.declared.refusal.Cause.TheVariants.{LongPayload, NoSlot, NoOctets, NoRow, EntryLimit, OctetLimit, Other}

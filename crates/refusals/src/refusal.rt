@@ -6,7 +6,8 @@ ghost use Rattle.std.specs.Prelude.{◌≡◌, Some, decimal};
 use crate::other::OtherCause;
 use std::fmt;
 
-// What there is no room for, in the order in which causes are judged; each has its number.
+// What there is no room for: the causes with a name in the order in which they are judged, and those of other makes of spool. Each has
+// its number.
 #[derive(Clone, Copy, PartialEq, Eq, Debug)]
 pub enum Cause {
     // a payload longer than a slot
